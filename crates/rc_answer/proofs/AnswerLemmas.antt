@@ -1,27 +1,7 @@
 -- What may be written of a text, of what is written of its parts.
 use Rattle.std.proofs.Common.{◌≡◌, ℕ, ◌+◌, inl, inr, List, Option, Result, Ok, Err, ◌∙◌, sym, subst, ap}
-use Rattle.rc_reader.specs.Grammar.{Broken, Reading, spec_reading}
-use Rattle.rc_reader.specs.Answers.{IsRead, ReadsAs, rest_place}
-use Rattle.rc_reader.specs.declared.refusal.ReadRefusal.{ReadRefusal}
+use Rattle.rc_answer.proofs.Imports.{Broken, Reading, spec_reading, IsRead, ReadsAs, rest_place, ReadRefusal, Rest, ContentLine, TextPlace, content_from, past_end_of, Spec, IsAccepted, Also, Nothing, Work, IsRestBehind, WorkPart, part_reading, work_reading, Form, AnswersAlone, AnswersAudit, AnswersPart, AnswersRun, AnswersWork, IsJudgement, IsRefusal, IsReport, place_after, WritesRefusal, Writes, Status, Stop, Memory, Sink}
 use Rattle.rc_reader.specs.declared.refusal.ReadRefusal.TheVariants as refusals
-use Rattle.rc_reader.specs.declared.reading.Rest.{Rest}
-use Rattle.rc_text.specs.Lines.{ContentLine, TextPlace, content_from, past_end_of}
-use Rattle.rc_spec.specs.declared.spec.Spec.{Spec}
-use Rattle.rc_spec.specs.Acceptance.{IsAccepted}
-use Rattle.rc_work.specs.declared.also.Also.{Also}
-use Rattle.rc_work.specs.declared.also.Also.TheVariants.{Nothing}
-use Rattle.rc_work.specs.declared.work.Work.{Work}
-use Rattle.rc_work.specs.Answers.{IsRestBehind}
-use Rattle.rc_work.specs.PartGrammar.{WorkPart, part_reading}
-use Rattle.rc_work.specs.Ranking.{work_reading}
-use Rattle.rc_audit.specs.declared.form.Form.{Form}
-use Rattle.rc_answer.specs.Answers.{AnswersAlone, AnswersAudit, AnswersPart, AnswersRun, AnswersWork, IsJudgement, IsRefusal, IsReport}
-use Rattle.rc_work.specs.WholeText.{place_after}
-use Rattle.rc_answer.specs.Refusals.{WritesRefusal}
-use Rattle.rc_answer.specs.Writes.{Writes}
-use Rattle.rc_answer.specs.declared.status.Status.{Status}
-use Rattle.rc_answer.specs.declared.status.Stop.{Stop}
-use Rattle.rc_answer.specs.declared.status.Stop.TheVariants.{Memory, Sink}
 
 pub writes_wider : (A B : List ℕ → Status → Type 0) (old new : Option (List ℕ)) (r : Result Status Stop) → ((text : List ℕ) (status : Status) → A text status → B text status)
     → Writes A old new r → Writes B old new r

@@ -1,19 +1,6 @@
 -- A verdict that was written.
 use Rattle.std.proofs.Common.{◌≡◌, ℕ, List, [], ◌∷◌, Option, Result, refl, subst}
-use Rattle.std.specs.Result.{IsErr}
-use Rattle.rc_io.specs.Bytes.{Adds, AddsPrefix}
-use Rattle.rc_text.specs.Lines.{ContentLine, printed_lines}
-use Rattle.rc_spec.specs.declared.spec.Spec.{Spec}
-use Rattle.rc_plan.specs.Compiled.{SpecWithPlans}
-use Rattle.rc_work.specs.declared.work.Work.{Work}
-use Rattle.rc_audit.specs.declared.form.Form.{Form}
-use Rattle.rc_audit.specs.declared.verdict.Verdict.{Verdict}
-use Rattle.rc_audit.specs.GoodReports.{IsVerdict}
-use Rattle.rc_answer.specs.Answers.{IsJudgement, IsVerdictText, verdict_status, verdict_text}
-use Rattle.rc_answer.specs.Plans.{ArePlanned}
-use Rattle.rc_answer.specs.Writes.{Writes, WritesWhole}
-use Rattle.rc_answer.specs.declared.status.Status.{Status}
-use Rattle.rc_answer.specs.declared.status.Stop.{Stop}
+use Rattle.rc_answer.proofs.Imports.{IsErr, Adds, AddsPrefix, ContentLine, printed_lines, Spec, SpecWithPlans, Work, Form, Verdict, IsVerdict, IsJudgement, IsVerdictText, verdict_status, verdict_text, ArePlanned, Writes, WritesWhole, Status, Stop}
 use Rattle.rc_answer.proofs.AnswerLemmas.{writes_wider}
 use Rattle.rc_answer.proofs.PlanLemmas.{part_writes}
 

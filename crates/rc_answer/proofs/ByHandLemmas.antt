@@ -1,39 +1,9 @@
 -- What is written of a text with plans that are written for operations, and what its run leaves.
 use Rattle.std.proofs.Common.{◌≡◌, ◌<◌, ℕ, inl, List, ◌∷◌, Option, Some, None, Result, Ok, Err, length, refl, subst, sym}
-use Rattle.std.specs.Prelude.{IfOk, IfSome}
-use Rattle.rc_tuple.specs.RisingSet.{In}
-use Rattle.rc_tuple.specs.RisingSetLaws.{append_in_right}
-use Rattle.rc_text.specs.Lines.{ContentLine, TextPlace, content_from, past_end_of}
-use Rattle.rc_io.specs.Bytes.{Adds}
-use Rattle.rc_spec.specs.Acceptance.{IsAccepted}
-use Rattle.rc_spec.specs.declared.spec.Spec.{Spec}
-use Rattle.rc_plan.specs.Compiled.{SpecWithPlans}
-use Rattle.rc_handplan.specs.Answers.{HasReadPlans}
-use Rattle.rc_handplan.specs.Chosen.{AllKeepRules, AreChosen, IsRefusedFor}
+use Rattle.rc_answer.proofs.Imports.{IfOk, IfSome, In, append_in_right, ContentLine, TextPlace, content_from, past_end_of, Adds, IsAccepted, Spec, SpecWithPlans, HasReadPlans, AllKeepRules, AreChosen, IsRefusedFor, HandReading, hands_reading, AreHands, HandFault, Hand, IsRead, ReadsAs, rest_place, Broken, Reading, spec_reading, Rest, ReadRefusal, Nothing, Work, work_reading, AnswersByHand, AnswersChosen, AnswersHands, AnswersWorkBy, IsReportBy, work_in_lines, IsOfItsStore, IsRunBy, run_text, HasChosenText, report_by, IsOfAnOperation, WritesRefusal, Writes, Outcome, Ran, Status, Stop}
 use Rattle.rc_handplan.specs.HandGrammar as hand_lines
-use Rattle.rc_handplan.specs.HandGrammar.{HandReading, hands_reading}
-use Rattle.rc_handplan.specs.Hands.{AreHands}
-use Rattle.rc_handplan.specs.declared.compiling.HandFault.{HandFault}
 use Rattle.rc_handplan.specs.declared.compiling.HandFault.TheVariants as plan_faults
-use Rattle.rc_handplan.specs.declared.hand.Hand.{Hand}
-use Rattle.rc_reader.specs.Answers.{IsRead, ReadsAs, rest_place}
-use Rattle.rc_reader.specs.Grammar.{Broken, Reading, spec_reading}
-use Rattle.rc_reader.specs.declared.reading.Rest.{Rest}
-use Rattle.rc_reader.specs.declared.refusal.ReadRefusal.{ReadRefusal}
 use Rattle.rc_reader.specs.declared.refusal.ReadRefusal.TheVariants as refusals
-use Rattle.rc_work.specs.declared.also.Also.TheVariants.{Nothing}
-use Rattle.rc_work.specs.declared.work.Work.{Work}
-use Rattle.rc_work.specs.Ranking.{work_reading}
-use Rattle.rc_answer.specs.Answers.{AnswersByHand, AnswersChosen, AnswersHands, AnswersWorkBy, IsReportBy, work_in_lines}
-use Rattle.rc_answer.specs.Ran.{IsOfItsStore, IsRunBy, run_text}
-use Rattle.rc_answer.specs.RanByHand.{HasChosenText}
-use Rattle.rc_answer.specs.RanLaws.{report_by}
-use Rattle.rc_answer.specs.Refusals.{IsOfAnOperation, WritesRefusal}
-use Rattle.rc_answer.specs.Writes.{Writes}
-use Rattle.rc_answer.specs.declared.outcome.Outcome.{Outcome}
-use Rattle.rc_answer.specs.declared.outcome.Ran.{Ran}
-use Rattle.rc_answer.specs.declared.status.Status.{Status}
-use Rattle.rc_answer.specs.declared.status.Stop.{Stop}
 use Rattle.rc_answer.proofs.AnswerLemmas.{read_place, writes_wider}
 use Rattle.rc_answer.proofs.RanLemmas.{ran_by}
 

@@ -1,19 +1,6 @@
 -- Drawings that were written.
 use Rattle.std.proofs.Common.{◌≡◌, ℕ, List, Option, Result, ◌∙◌, sym, ap, subst}
-use Rattle.std.specs.Result.{IsErr}
-use Rattle.rc_io.specs.Bytes.{Adds, AddsPrefix}
-use Rattle.rc_spec.specs.declared.items.Op.{Op}
-use Rattle.rc_spec.specs.declared.spec.Spec.{Spec}
-use Rattle.rc_spec.specs.Names.{op_names}
-use Rattle.rc_plan.specs.declared.statement.Statement.{Statement}
-use Rattle.rc_dot.specs.Dot.{plan_drawing_text}
-use Rattle.rc_reader.specs.Names.{number_among}
-use Rattle.rc_work.specs.LineRules.{op_number}
-use Rattle.rc_answer.specs.Answers.{IsPlanDrawingNamed, IsPlanDrawingOrRefusal}
-use Rattle.rc_answer.specs.Writes.{Writes, WritesWhole}
-use Rattle.rc_answer.specs.declared.status.Status.{Status}
-use Rattle.rc_answer.specs.declared.status.Status.TheVariants.{Done}
-use Rattle.rc_answer.specs.declared.status.Stop.{Stop}
+use Rattle.rc_answer.proofs.Imports.{IsErr, Adds, AddsPrefix, Op, Spec, op_names, Statement, plan_drawing_text, number_among, op_number, IsPlanDrawingNamed, IsPlanDrawingOrRefusal, Writes, WritesWhole, Status, Done, Stop}
 use Rattle.rc_answer.proofs.PlanLemmas.{part_writes}
 
 -- a writer that stopped within a printed text left a part of it

@@ -7,3 +7,4 @@ pub mod SummingLemmas
 pub mod AuditLemmas
 pub mod ByHandLemmas
 mod OpenLemmas
+mod Imports

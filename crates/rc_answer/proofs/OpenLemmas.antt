@@ -1,40 +1,7 @@
 -- What is written of a workload whose calls bring their own operation, and what its run leaves.
 use Rattle.std.proofs.Common.{◌≡◌, ◌++◌, ◌∙◌, ◌-◌, ◌<◌, ℕ, inl, inr, List, Option, Result, Ok, Err, ap, drop, length, refl, subst, sym, take}
-use Rattle.std.proofs.lemmas.List.{take-append-drop, take_rest}
-use Rattle.std.specs.Prelude.{IfOk}
-use Rattle.std.specs.Result.{IsErr}
-use Rattle.rc_text.specs.Lines.{TextPlace}
-use Rattle.rc_io.specs.Bytes.{Adds, AddsPrefix}
-use Rattle.rc_open.specs.ShapeText.{shapes_text}
-use Rattle.rc_open.specs.ShapeTextLaws.{further_text}
-use Rattle.rc_spec.specs.Acceptance.{IsAccepted}
-use Rattle.rc_spec.specs.declared.items.Op.{Op}
-use Rattle.rc_spec.specs.declared.spec.Spec.{Spec}
-use Rattle.rc_tuple.specs.RisingSet.{In}
-use Rattle.rc_tuple.specs.RisingSetLaws.{append_in_left, append_in_right}
-use Rattle.rc_spec.specs.Placement.{op_at}
-use Rattle.rc_plan.specs.Compiled.{ArePlansOf, SpecWithPlans, plan_at}
-use Rattle.rc_query.specs.Planned.{IsPlanned}
-use Rattle.rc_reader.specs.Answers.{IsRead, ReadsAs, rest_place}
-use Rattle.rc_reader.specs.Grammar.{Broken, Reading, spec_reading}
-use Rattle.rc_reader.specs.declared.reading.Rest.{Rest}
-use Rattle.rc_reader.specs.declared.refusal.ReadRefusal.{ReadRefusal}
+use Rattle.rc_answer.proofs.Imports.{take-append-drop, take_rest, IfOk, IsErr, TextPlace, Adds, AddsPrefix, shapes_text, further_text, IsAccepted, Op, Spec, In, append_in_left, append_in_right, op_at, ArePlansOf, SpecWithPlans, plan_at, IsPlanned, IsRead, ReadsAs, rest_place, Broken, Reading, spec_reading, Rest, ReadRefusal, HasSingleTurns, open_reading, with_operations, OpenWork, AnswersOpen, AnswersOpenWork, IsOpenReport, ArePlanned, HasOpenText, HasOpenWorkText, IsOfItsStore, IsRunBy, IsRunOf, done_in, open_text, run_text, is_report, WritesRefusal, Writes, WritesWhole, Ran, Status, Done, Stop, Memory, Sink}
 use Rattle.rc_reader.specs.declared.refusal.ReadRefusal.TheVariants as refusals
-use Rattle.rc_work.specs.Limits.{HasSingleTurns}
-use Rattle.rc_work.specs.OpenGrammar.{open_reading}
-use Rattle.rc_work.specs.Shapes.{with_operations}
-use Rattle.rc_work.specs.declared.open_work.OpenWork.{OpenWork}
-use Rattle.rc_answer.specs.Answers.{AnswersOpen, AnswersOpenWork, IsOpenReport}
-use Rattle.rc_answer.specs.Plans.{ArePlanned}
-use Rattle.rc_answer.specs.Ran.{HasOpenText, HasOpenWorkText, IsOfItsStore, IsRunBy, IsRunOf, done_in, open_text, run_text}
-use Rattle.rc_answer.specs.RanLaws.{is_report}
-use Rattle.rc_answer.specs.Refusals.{WritesRefusal}
-use Rattle.rc_answer.specs.Writes.{Writes, WritesWhole}
-use Rattle.rc_answer.specs.declared.outcome.Ran.{Ran}
-use Rattle.rc_answer.specs.declared.status.Status.{Status}
-use Rattle.rc_answer.specs.declared.status.Status.TheVariants.{Done}
-use Rattle.rc_answer.specs.declared.status.Stop.{Stop}
-use Rattle.rc_answer.specs.declared.status.Stop.TheVariants.{Memory, Sink}
 use Rattle.rc_answer.proofs.AnswerLemmas.{read_place, writes_wider}
 use Rattle.rc_answer.proofs.RanLemmas.{planned_run}
 

@@ -1,24 +1,6 @@
 -- The plans of operations, written one after another.
 use Rattle.std.proofs.Common.{◌≡◌, ℕ, zero, suc, ◌+◌, ◌<◌, ◌≤◌, List, [], ◌∷◌, ◌++◌, codes, length, take, Option, Some, Result, Ok, Err, inr, refl, sym, ap, ◌∙◌, subst, arith}
-use Rattle.std.specs.List.{flat_map, range_with_len, slice_get}
-use Rattle.std.specs.Result.{IsErr}
-use Rattle.std.proofs.lemmas.List.FromFn.{length-range_with_len}
-use Rattle.rc_io.specs.Bytes.{Adds, AddsPrefix}
-use Rattle.rc_io.specs.BytesLaws.{adds_more, adds_prefix_longer, adds_prefix_more}
-use Rattle.rc_text.specs.Lines.{printed_lines}
-use Rattle.rc_spec.specs.declared.spec.Spec.{Spec}
-use Rattle.rc_plan.specs.declared.statement.Statement.{Statement}
-use Rattle.rc_plan.specs.Compiled.{IsCompiled, SpecWithPlans, plan_at}
-use Rattle.rc_plan.specs.PlanText.{plan_text}
-use Rattle.rc_query.specs.Planned.{IsPlanned}
-use Rattle.rc_spec.specs.Placement.{op_at}
-use Rattle.rc_answer.specs.Answers.{IsPlansText}
-use Rattle.rc_answer.specs.Writes.{Writes, WritesPart, WritesWhole}
-use Rattle.rc_answer.specs.Plans.{ArePlanned, op_text, plans_text}
-use Rattle.rc_answer.specs.declared.status.Status.{Status}
-use Rattle.rc_answer.specs.declared.status.Status.TheVariants.{Done}
-use Rattle.rc_answer.specs.declared.status.Stop.{Stop}
-use Rattle.rc_answer.specs.declared.status.Stop.TheVariants.{Memory, Sink}
+use Rattle.rc_answer.proofs.Imports.{flat_map, range_with_len, slice_get, IsErr, length-range_with_len, Adds, AddsPrefix, adds_more, adds_prefix_longer, adds_prefix_more, printed_lines, Spec, Statement, IsCompiled, SpecWithPlans, plan_at, plan_text, IsPlanned, op_at, IsPlansText, Writes, WritesPart, WritesWhole, ArePlanned, op_text, plans_text, Status, Done, Stop, Memory, Sink}
 use Rattle.rc_answer.proofs.WriteLemmas.{part_written, next_written, next_begun, all_written, of_one}
 
 number_there : (a n i j : ℕ) → i < n → a + i ≡ j → slice_get (range_with_len a n) i ≡ Some j

@@ -1,43 +1,7 @@
 -- What is written of a run.
 use Rattle.std.proofs.Common.{◌≡◌, ◌∙◌, ◌↔◌, ◌<◌, ◌++◌, ℕ, List, Option, Result, Ok, Err, ap, inr, length, refl, subst, sym}
-use Rattle.std.specs.Prelude.{IfOk, IfSome, IsSome}
-use Rattle.std.specs.Result.{IsErr, OnErr}
-use Rattle.rc_text.specs.Lines.{printed_lines}
-use Rattle.rc_io.specs.BytesLaws.{adds_prefix_longer, adds_prefix_more}
-use Rattle.rc_io.specs.Bytes.{Adds, AddsPrefix}
-use Rattle.rc_tuple.specs.RisingSet.{In}
-use Rattle.rc_tuple.specs.Tuple.{Pairs}
-use Rattle.rc_spec.specs.declared.spec.Spec.{Spec}
-use Rattle.rc_spec.specs.Placement.{op_at}
-use Rattle.rc_plan.specs.Compiled.{ArePlansOf, SpecWithPlans, plan_at}
-use Rattle.rc_plan.specs.declared.statement.Statement.{Statement}
-use Rattle.rc_query.specs.Planned.{IsPlanned}
-use Rattle.rc_instance.specs.Instance.{IsOfRelation}
-use Rattle.rc_rel.specs.declared.entry.Entry.{Entry}
-use Rattle.rc_rel.specs.History.{AllFit, replay}
-use Rattle.rc_store.specs.Closed.{ClosedSeen, HasOneHistory}
-use Rattle.rc_spec.specs.Acceptance.{IsAccepted}
-use Rattle.rc_reader.specs.Grammar.{Reading, spec_reading}
-use Rattle.rc_reader.specs.Answers.{IsRead, rest_place}
-use Rattle.rc_reader.specs.declared.reading.Rest.{Rest}
-use Rattle.rc_work.specs.Ranking.{work_reading}
+use Rattle.rc_answer.proofs.Imports.{IfOk, IfSome, IsSome, IsErr, OnErr, printed_lines, adds_prefix_longer, adds_prefix_more, Adds, AddsPrefix, In, Pairs, Spec, op_at, ArePlansOf, SpecWithPlans, plan_at, Statement, IsPlanned, IsOfRelation, Entry, AllFit, replay, ClosedSeen, HasOneHistory, IsAccepted, Reading, spec_reading, IsRead, rest_place, Rest, work_reading, HasRun, Also, Work, report, Runs, Outcome, Ran, Status, Done, Stop, Memory, Sink, IsReportBy, ArePlanned, plans_text, HasRunText, IsOfItsStore, IsReadAs, IsRunBy, IsRunOf, done_in, entries_in, outcome_in, run_text, status_in, is_report, report_by, run_by, Writes, WritesWhole}
 use Rattle.rc_answer.proofs.AnswerLemmas.{read_place, writes_wider}
-use Rattle.rc_runner.specs.Running.{HasRun}
-use Rattle.rc_work.specs.declared.also.Also.{Also}
-use Rattle.rc_work.specs.declared.work.Work.{Work}
-use Rattle.rc_work.specs.Report.{report}
-use Rattle.rc_work.specs.Runs.{Runs}
-use Rattle.rc_answer.specs.declared.outcome.Outcome.{Outcome}
-use Rattle.rc_answer.specs.declared.outcome.Ran.{Ran}
-use Rattle.rc_answer.specs.declared.status.Status.{Status}
-use Rattle.rc_answer.specs.declared.status.Status.TheVariants.{Done}
-use Rattle.rc_answer.specs.declared.status.Stop.{Stop}
-use Rattle.rc_answer.specs.declared.status.Stop.TheVariants.{Memory, Sink}
-use Rattle.rc_answer.specs.Answers.{IsReportBy}
-use Rattle.rc_answer.specs.Plans.{ArePlanned, plans_text}
-use Rattle.rc_answer.specs.Ran.{HasRunText, IsOfItsStore, IsReadAs, IsRunBy, IsRunOf, done_in, entries_in, outcome_in, run_text, status_in}
-use Rattle.rc_answer.specs.RanLaws.{is_report, report_by, run_by}
-use Rattle.rc_answer.specs.Writes.{Writes, WritesWhole}
 
 -- ---- the run
 

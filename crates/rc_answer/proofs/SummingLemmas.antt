@@ -1,28 +1,7 @@
 -- What is written of a run of a generated workload.
 use Rattle.std.proofs.Common.{◌≡◌, ◌∙◌, ◌<◌, ◌≤◌, ◌^◌, ◌*◌, ℕ, List, Option, Result, Ok, Err, ap, arith, inr, length, refl, subst, sym}
-use Rattle.std.specs.Prelude.{IfOk, IfSome, IsSome}
-use Rattle.std.specs.Result.{IsErr}
-use Rattle.rc_io.specs.Bytes.{Adds, AddsPrefix}
-use Rattle.rc_tuple.specs.Tuple.{Pairs}
-use Rattle.rc_spec.specs.declared.spec.Spec.{Spec}
-use Rattle.rc_rel.specs.declared.entry.Entry.{Entry}
-use Rattle.rc_rel.specs.History.{steps_of}
-use Rattle.rc_work.specs.declared.work.Work.{Work}
-use Rattle.rc_generate.specs.declared.summary.Summary.{Summary}
-use Rattle.rc_generate.specs.Summary.{counted, rows_in, summary}
-use Rattle.rc_generate.specs.Generated.{generated}
-use Rattle.rc_generate.specs.GeneratedLaws.{generated_runs_are_small}
-use Rattle.rc_generate.specs.Sample.{sample_graph}
-use Rattle.rc_generate.specs.SummaryText.{summary_text}
-use Rattle.rc_answer.specs.declared.outcome.Outcome.{Outcome}
-use Rattle.rc_answer.specs.declared.outcome.Ran.{Ran}
-use Rattle.rc_answer.specs.declared.status.Stop.{Stop}
-use Rattle.rc_answer.specs.declared.status.Stop.TheVariants.{Memory, Sink}
-use Rattle.rc_answer.specs.declared.status.Status.TheVariants.{Done}
-use Rattle.rc_answer.specs.Big.{IsBigText, ran_text}
-use Rattle.rc_answer.specs.Ran.{IsRunOf, done_in, entries_in, outcome_in}
-use Rattle.rc_answer.specs.RanLaws.{summary_is_one_threads}
-use Rattle.rc_answer.specs.Writes.{CountsFaults, Writes}
+use Rattle.rc_answer.proofs.Imports.{IfOk, IfSome, IsSome, IsErr, Adds, AddsPrefix, Pairs, Spec, Entry, steps_of, Work, Summary, counted, rows_in, summary, generated, generated_runs_are_small, sample_graph, summary_text, Outcome, Ran, Stop, Memory, Sink, Done, IsBigText, IsRunOf, done_in, entries_in, outcome_in, summary_is_one_threads, CountsFaults, Writes}
+use Rattle.rc_answer.specs.Big.{ran_text}
 
 -- what a writer's error says of the sink's faults is so whatever the writer would have answered
 counts_of_error : {A B : Type 0} (old new : ℕ) (e : Stop) → CountsFaults {A = A} old new (Err e) → CountsFaults {A = B} old new (Err e)
@@ -47,7 +26,6 @@ run_of_generated seed calls spec work ran is made run =
     subst (λ (w : Work). IsRunOf sample_graph w ran) made (subst (λ (s : Spec). IsRunOf s work ran) is run)
 
 module _ (seed calls : ℕ) (ran : Ran) (run : IsRunOf sample_graph (generated seed calls) ran) where
-
   -- it is small enough to be counted
   pub steps_are_few : calls ≤ 20000 → length (steps_of (entries_in ran.closed.journal)) < 2 ^ 64
   steps_are_few few =

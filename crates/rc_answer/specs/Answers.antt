@@ -1,48 +1,11 @@
 -- What may be written for an input, with which status.
 use Rattle.std.specs.Prelude.{◌≡◌, ℕ, ◌⊎◌, List, [], ◌∷◌, ◌++◌, Option, Some, None, Result, Ok, Err, decimal, codes}
-use Rattle.rc_text.specs.Lines.{ContentLine, past_end_of, printed_lines}
-use Rattle.rc_spec.specs.declared.refusal.Refusal.{Refusal}
-use Rattle.rc_spec.specs.declared.spec.Spec.{Spec}
-use Rattle.rc_spec.specs.Acceptance.{IsAccepted, IsFirstBroken}
-use Rattle.rc_spec.specs.Placement.{op_at}
+use Rattle.rc_answer.specs.Imports.{ContentLine, past_end_of, printed_lines, Refusal, Spec, IsAccepted, IsFirstBroken, op_at, Statement, drawing_text, plan_drawing_text, ArePlansOf, PlanRefusal, IsPlanned, AllKeepRules, AreChosen, IsFirstRefused, HandReading, hands_reading, hand_rule_text, plan_refusal_text, Hand, Entry, replay, Broken, Reading, spec_reading, spec_of, line_rule_text, version_number, Also, Nothing, Groups, OpenWork, Work, op_number, open_reading, WorkPart, part_reading, words_text, work_by, work_reading, report, Runs, with_operations, place_after, reading_all, Form, Verdict, IsVerdict, shapes_text, TextCommand}
 use Rattle.rc_spec.specs.RefusalText as rules
-use Rattle.rc_plan.specs.declared.statement.Statement.{Statement}
-use Rattle.rc_dot.specs.Dot.{drawing_text, plan_drawing_text}
-use Rattle.rc_plan.specs.Compiled.{ArePlansOf}
-use Rattle.rc_plan.specs.declared.refusal.PlanRefusal.{PlanRefusal}
-use Rattle.rc_query.specs.Planned.{IsPlanned}
-use Rattle.rc_handplan.specs.Chosen.{AllKeepRules, AreChosen, IsFirstRefused}
 use Rattle.rc_handplan.specs.HandGrammar as hand_lines
-use Rattle.rc_handplan.specs.HandGrammar.{HandReading, hands_reading}
-use Rattle.rc_handplan.specs.RuleText.{hand_rule_text, plan_refusal_text}
-use Rattle.rc_handplan.specs.declared.hand.Hand.{Hand}
-use Rattle.rc_rel.specs.declared.entry.Entry.{Entry}
-use Rattle.rc_rel.specs.History.{replay}
-use Rattle.rc_reader.specs.Grammar.{Broken, Reading, spec_reading, spec_of}
-use Rattle.rc_reader.specs.RuleText.{line_rule_text}
-use Rattle.rc_reader.specs.Versions.{version_number}
-use Rattle.rc_work.specs.declared.also.Also.{Also}
-use Rattle.rc_work.specs.declared.also.Also.TheVariants.{Nothing, Groups}
-use Rattle.rc_work.specs.declared.open_work.OpenWork.{OpenWork}
-use Rattle.rc_work.specs.declared.work.Work.{Work}
-use Rattle.rc_work.specs.LineRules.{op_number}
-use Rattle.rc_work.specs.OpenGrammar.{open_reading}
-use Rattle.rc_work.specs.PartGrammar.{WorkPart, part_reading}
-use Rattle.rc_work.specs.Printed.{words_text}
-use Rattle.rc_work.specs.Ranking.{work_by, work_reading}
-use Rattle.rc_work.specs.Report.{report}
-use Rattle.rc_work.specs.Runs.{Runs}
-use Rattle.rc_work.specs.Shapes.{with_operations}
-use Rattle.rc_work.specs.WholeText.{place_after}
-use Rattle.rc_work.specs.WorkGrammar.{reading_all}
-use Rattle.rc_audit.specs.declared.form.Form.{Form}
 use Rattle.rc_audit.specs.declared.form.Form.TheVariants as forms
-use Rattle.rc_audit.specs.declared.verdict.Verdict.{Verdict}
 use Rattle.rc_audit.specs.declared.verdict.Verdict.TheVariants as verdicts
-use Rattle.rc_audit.specs.GoodReports.{IsVerdict}
-use Rattle.rc_open.specs.ShapeText.{shapes_text}
 use Rattle.rc_answer.specs.Plans.{ArePlanned, plans_and_end, plans_text}
-use Rattle.rc_command.specs.declared.command.TextCommand.{TextCommand}
 use Rattle.rc_command.specs.declared.command.TextCommand.TheVariants as commands
 use Rattle.rc_answer.specs.declared.status.Status.{Status}
 use Rattle.rc_answer.specs.declared.status.Status.TheVariants.{Done, Bad, Refused}

@@ -1,10 +1,6 @@
 -- What a generated workload may have written, and what its run leaves.
 use Rattle.std.specs.Prelude.{◌≡◌, ℕ, List, Option}
-use Rattle.rc_io.specs.Bytes.{Adds}
-use Rattle.rc_generate.specs.Summary.{one_thread_summary, summary}
-use Rattle.rc_generate.specs.Generated.{generated, generated_calls}
-use Rattle.rc_generate.specs.Sample.{sample_graph}
-use Rattle.rc_generate.specs.SummaryText.{summary_text}
+use Rattle.rc_answer.specs.Imports.{Adds, one_thread_summary, summary, generated, generated_calls, sample_graph, summary_text}
 use Rattle.rc_answer.specs.declared.outcome.Ran.{Ran}
 use Rattle.rc_answer.specs.declared.status.Status.{Status}
 use Rattle.rc_answer.specs.declared.status.Status.TheVariants.{Done}

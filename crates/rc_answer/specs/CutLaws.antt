@@ -1,15 +1,7 @@
 -- What `run` and `group` answer to a text that is cut.
 use Rattle.std.proofs.Common.{◌≡◌, ℕ, ◌≤◌, List, Result, Ok, Err, inl, inr, take}
-use Rattle.rc_spec.specs.declared.spec.Spec.{Spec}
-use Rattle.rc_reader.specs.Grammar.{Broken, Reading, spec_reading}
-use Rattle.rc_work.specs.declared.also.Also.{Also}
-use Rattle.rc_work.specs.declared.work.Work.{Work}
-use Rattle.rc_work.specs.Prefix.{IsLastLetter}
-use Rattle.rc_work.specs.PrefixLaws.{cut_texts_are_refused}
-use Rattle.rc_work.specs.Ranking.{work_reading}
-use Rattle.rc_work.specs.WholeText.{Whole, place_after, text_reading, text_reading_by, whole_by}
-use Rattle.rc_command.specs.declared.command.TextCommand.{TextCommand}
-use Rattle.rc_command.specs.declared.command.TextCommand.TheVariants.{Check, Plan, Run, Group, Audit, AuditJournal, Hand, Open, Dot, DotPlan}
+use Rattle.rc_answer.specs.Imports.{Spec, Broken, Reading, spec_reading, Also, Work, IsLastLetter, cut_texts_are_refused, work_reading, Whole, place_after, text_reading, text_reading_by, whole_by, TextCommand, Check, Plan, Run, Group, Audit, AuditJournal, Open, Dot, DotPlan}
+use Rattle.rc_command.specs.declared.command.TextCommand.TheVariants.{Hand}
 use Rattle.rc_answer.specs.declared.status.Status.{Status}
 use Rattle.rc_answer.specs.declared.status.Status.TheVariants.{Refused}
 use Rattle.rc_answer.specs.Answers.{Answers, AnswersRules, AnswersRun, AnswersWork, also_of}

@@ -1,19 +1,8 @@
 -- What `hand` answers to a text without plans.
 use Rattle.std.proofs.Common.{◌≡◌, ◌↔◌, ℕ, List, [], ◌∷◌, ◌++◌, Result, Ok, Err, inl, inr, refl, sym, subst}
-use Rattle.rc_text.specs.Lines.{content_from, past_end_of}
-use Rattle.rc_spec.specs.declared.spec.Spec.{Spec}
-use Rattle.rc_handplan.specs.Chosen.{AreChosen}
-use Rattle.rc_handplan.specs.FirstBroken.{BeginNoPlan}
-use Rattle.rc_handplan.specs.FirstBrokenLaws.{nothing_is_read}
+use Rattle.rc_answer.specs.Imports.{content_from, past_end_of, Spec, AreChosen, BeginNoPlan, nothing_is_read, HandReading, hands_reading, Hand, Broken, Reading, spec_reading, Nothing, Work, work_reading, place_after}
 use Rattle.rc_handplan.specs.HandGrammar as hand_lines
-use Rattle.rc_handplan.specs.HandGrammar.{HandReading, hands_reading}
-use Rattle.rc_handplan.specs.declared.hand.Hand.{Hand}
 use Rattle.rc_handplan.specs.declared.starts.Closing.TheVariants as closings
-use Rattle.rc_reader.specs.Grammar.{Broken, Reading, spec_reading}
-use Rattle.rc_work.specs.declared.also.Also.TheVariants.{Nothing}
-use Rattle.rc_work.specs.declared.work.Work.{Work}
-use Rattle.rc_work.specs.Ranking.{work_reading}
-use Rattle.rc_work.specs.WholeText.{place_after}
 use Rattle.rc_command.specs.declared.command.TextCommand.TheVariants as commands
 use Rattle.rc_answer.specs.declared.status.Status.{Status}
 use Rattle.rc_answer.specs.Answers.{Answers, AnswersByHand, AnswersHands, AnswersRules, AnswersRun, AnswersWork, AnswersWorkBy}

@@ -28,42 +28,9 @@
 --   written plans       rc_handplan: HandGrammar (hands_reading), Chosen (AreChosen, AllKeepRules, IsFirstRefused); rc_plan: PlanRules (K1 to K7)
 --   good reports        rc_audit: GoodReports (IsGoodReport, IsVerdict)
 use Rattle.std.specs.Prelude.{◌≡◌, ◌↔◌, ℕ, suc, ◌<◌, List, [], ◌∷◌, ◌++◌, ◌⊎◌, Option, None, Some, Result, Ok, Err}
-use Rattle.std.specs.List.{flat_map, slice_get}
-use Rattle.rc_tuple.specs.RisingSet.{In}
-use Rattle.rc_tuple.specs.Relation.{Satisfies}
-use Rattle.rc_tuple.specs.Tuple.{Pairs}
-use Rattle.rc_text.specs.Lines.{ContentLine, bytes_of_content, past_end_of, printed_lines}
-use Rattle.rc_io.specs.Bytes.{Adds}
-use Rattle.rc_spec.specs.declared.refusal.Refusal.{Refusal}
-use Rattle.rc_spec.specs.declared.spec.Spec.{Spec}
-use Rattle.rc_spec.specs.Acceptance.{IsAccepted, IsFirstBroken}
+use Rattle.rc_answer.specs.Imports.{flat_map, slice_get, In, Satisfies, Pairs, ContentLine, bytes_of_content, past_end_of, printed_lines, Adds, Refusal, Spec, IsAccepted, IsFirstBroken, Statement, PlanRefusal, AllKeepRules, AreChosen, IsFirstRefused, HandReading, hands_reading, plan_refusal_text, Hand, Entry, AllFit, AreLegalFrom, after_steps, calls_of, own, relation_at, replay, shapes_text, Broken, Reading, spec_of, spec_reading, version_number, Also, Nothing, OpenWork, Work, open_reading, WorkPart, part_reading, work_reading, report, HasSingleSteps, MakesRounds, thread_calls, thread_turns, turns_of, with_operations, place_after, Form, Verdict, IsGoodReport, IsVerdict}
 use Rattle.rc_spec.specs.RefusalText as rules
-use Rattle.rc_plan.specs.declared.statement.Statement.{Statement}
-use Rattle.rc_plan.specs.declared.refusal.PlanRefusal.{PlanRefusal}
-use Rattle.rc_handplan.specs.Chosen.{AllKeepRules, AreChosen, IsFirstRefused}
 use Rattle.rc_handplan.specs.HandGrammar as hand_lines
-use Rattle.rc_handplan.specs.HandGrammar.{HandReading, hands_reading}
-use Rattle.rc_handplan.specs.RuleText.{plan_refusal_text}
-use Rattle.rc_handplan.specs.declared.hand.Hand.{Hand}
-use Rattle.rc_rel.specs.declared.entry.Entry.{Entry}
-use Rattle.rc_rel.specs.History.{AllFit, AreLegalFrom, after_steps, calls_of, own, relation_at, replay}
-use Rattle.rc_open.specs.ShapeText.{shapes_text}
-use Rattle.rc_reader.specs.Grammar.{Broken, Reading, spec_of, spec_reading}
-use Rattle.rc_reader.specs.Versions.{version_number}
-use Rattle.rc_work.specs.declared.also.Also.{Also}
-use Rattle.rc_work.specs.declared.also.Also.TheVariants.{Nothing}
-use Rattle.rc_work.specs.declared.open_work.OpenWork.{OpenWork}
-use Rattle.rc_work.specs.declared.work.Work.{Work}
-use Rattle.rc_work.specs.OpenGrammar.{open_reading}
-use Rattle.rc_work.specs.PartGrammar.{WorkPart, part_reading}
-use Rattle.rc_work.specs.Ranking.{work_reading}
-use Rattle.rc_work.specs.Report.{report}
-use Rattle.rc_work.specs.Runs.{HasSingleSteps, MakesRounds, thread_calls, thread_turns, turns_of}
-use Rattle.rc_work.specs.Shapes.{with_operations}
-use Rattle.rc_work.specs.WholeText.{place_after}
-use Rattle.rc_audit.specs.declared.form.Form.{Form}
-use Rattle.rc_audit.specs.declared.verdict.Verdict.{Verdict}
-use Rattle.rc_audit.specs.GoodReports.{IsGoodReport, IsVerdict}
 use Rattle.rc_answer.specs.declared.outcome.Outcome.{Outcome}
 use Rattle.rc_answer.specs.declared.outcome.Ran.{Ran}
 use Rattle.rc_answer.specs.declared.status.Status.TheVariants.{Done, Refused}

@@ -1,61 +1,12 @@
 -- The headline holds of what `run`, `group`, `hand` and `check` answer with the status Done or Refused, and `audit` also with Bad.
 use Rattle.std.proofs.Common.{◌≡◌, ◌↔◌, ℕ, suc, ◌+◌, List, [], ◌∷◌, ◌++◌, take, drop, Option, Some, None, Result, Ok, Err, refl, sym, ap, subst, ◌∙◌, inl, inr, arith}
-use Rattle.std.specs.Prelude.{IfSome, IsSome}
-use Rattle.std.specs.List.{slice_get}
+use Rattle.rc_answer.specs.Imports.{IfSome, IsSome, slice_get, In, append_in_right, Pairs, ContentLine, TextPlace, bytes_of_content, past_end_of, printed_lines, Adds, Spec, refused_not_accepted, plain, op_at, SpecWithPlans, refused_law, PlanRefusal, Statement, AllKeepRules, AreChosen, IsFirstRefused, HandReading, hands_reading, plan_refusal_text, Hand, Entry, Step, AllFit, AreLegalFrom, IsLegal, after_steps, relation_at, replay, steps_of, replay_in_states, states_satisfy, steps_of-append, legal_last, shapes_text, Broken, Reading, spec_of, spec_reading, version_number, Also, Nothing, OpenWork, Work, open_reading, IsDraft-reading_all, HasThreads, HasSingleTurns, WorkPart, part_reading, parts_are_works, work_by, work_of, work_reading, HasThreads-work_with, report, HasSingleSteps, Runs, runs_make_calls, runs_make_turns, single_turns_are_single_steps, with_operations, place_after, draft_of, reading_all, Form, Verdict, IsGoodReport, IsVerdict, one_verdict, Check}
 use Rattle.std.proofs.lemmas.List.{append_assoc, take-append-drop, take_more}
 use Rattle.std.proofs.lemmas.Option.{get_or_from_slice_get, slice_get_within}
-use Rattle.rc_tuple.specs.RisingSet.{In}
-use Rattle.rc_tuple.specs.RisingSetLaws.{append_in_right}
-use Rattle.rc_tuple.specs.Tuple.{Pairs}
-use Rattle.rc_text.specs.Lines.{ContentLine, TextPlace, bytes_of_content, past_end_of, printed_lines}
-use Rattle.rc_io.specs.Bytes.{Adds}
-use Rattle.rc_spec.specs.declared.spec.Spec.{Spec}
-use Rattle.rc_spec.specs.AcceptanceLaws.{refused_not_accepted}
 use Rattle.rc_spec.specs.RefusalText as rules
-use Rattle.rc_spec.specs.Plain.{plain}
-use Rattle.rc_spec.specs.Placement.{op_at}
-use Rattle.rc_plan.specs.Compiled.{SpecWithPlans}
-use Rattle.rc_plan.specs.PlanRulesLaws.{refused_law}
-use Rattle.rc_plan.specs.declared.refusal.PlanRefusal.{PlanRefusal}
-use Rattle.rc_plan.specs.declared.statement.Statement.{Statement}
-use Rattle.rc_handplan.specs.Chosen.{AllKeepRules, AreChosen, IsFirstRefused}
 use Rattle.rc_handplan.specs.HandGrammar as hand_lines
-use Rattle.rc_handplan.specs.HandGrammar.{HandReading, hands_reading}
-use Rattle.rc_handplan.specs.RuleText.{plan_refusal_text}
-use Rattle.rc_handplan.specs.declared.hand.Hand.{Hand}
-use Rattle.rc_rel.specs.declared.entry.Entry.{Entry}
-use Rattle.rc_rel.specs.declared.entry.Step.{Step}
-use Rattle.rc_rel.specs.History.{AllFit, AreLegalFrom, IsLegal, after_steps, relation_at, replay, steps_of}
-use Rattle.rc_rel.specs.HistoryLaws.{replay_in_states, states_satisfy, steps_of-append}
-use Rattle.rc_rel.specs.PlaceLaws.{legal_last}
-use Rattle.rc_open.specs.ShapeText.{shapes_text}
-use Rattle.rc_reader.specs.Grammar.{Broken, Reading, spec_of, spec_reading}
-use Rattle.rc_reader.specs.Versions.{version_number}
-use Rattle.rc_work.specs.declared.also.Also.{Also}
-use Rattle.rc_work.specs.declared.also.Also.TheVariants.{Nothing}
-use Rattle.rc_work.specs.declared.open_work.OpenWork.{OpenWork}
-use Rattle.rc_work.specs.declared.work.Work.{Work}
-use Rattle.rc_work.specs.OpenGrammar.{open_reading}
-use Rattle.rc_work.specs.DraftsLaws.{IsDraft-reading_all}
-use Rattle.rc_work.specs.Fitting.{HasThreads}
-use Rattle.rc_work.specs.Limits.{HasSingleTurns}
-use Rattle.rc_work.specs.PartGrammar.{WorkPart, part_reading}
-use Rattle.rc_work.specs.PartLaws.{parts_are_works}
-use Rattle.rc_work.specs.Ranking.{work_by, work_of, work_reading}
-use Rattle.rc_work.specs.RankingLaws.{HasThreads-work_with}
-use Rattle.rc_work.specs.Report.{report}
-use Rattle.rc_work.specs.Runs.{HasSingleSteps, Runs}
-use Rattle.rc_work.specs.RunsLaws.{runs_make_calls, runs_make_turns, single_turns_are_single_steps}
-use Rattle.rc_work.specs.Shapes.{with_operations}
-use Rattle.rc_work.specs.WholeText.{place_after}
-use Rattle.rc_work.specs.WorkGrammar.{draft_of, reading_all}
-use Rattle.rc_audit.specs.declared.form.Form.{Form}
 use Rattle.rc_audit.specs.declared.form.Form.TheVariants as forms
-use Rattle.rc_audit.specs.declared.verdict.Verdict.{Verdict}
 use Rattle.rc_audit.specs.declared.verdict.Verdict.TheVariants as verdicts
-use Rattle.rc_audit.specs.GoodReports.{IsGoodReport, IsVerdict}
-use Rattle.rc_audit.specs.VerdictLaws.{one_verdict}
-use Rattle.rc_command.specs.declared.command.TextCommand.TheVariants.{Check}
 use Rattle.rc_answer.specs.declared.outcome.Outcome.{Outcome}
 use Rattle.rc_answer.specs.declared.outcome.Ran.{Ran}
 use Rattle.rc_answer.specs.declared.status.Status.{Status}

@@ -13,3 +13,4 @@ pub mod Refusals
 pub mod Statuses
 pub mod Writes
 pub mod OpenLaws
+pub mod Imports

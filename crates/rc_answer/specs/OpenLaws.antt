@@ -1,17 +1,6 @@
 -- What `open` answers to a text none of whose calls brings its own operation.
 use Rattle.std.proofs.Common.{◌↔◌, ℕ, List, Result, Ok, Err, inl, inr, refl, sym, subst}
-use Rattle.rc_text.specs.Lines.{content_from}
-use Rattle.rc_spec.specs.declared.spec.Spec.{Spec}
-use Rattle.rc_reader.specs.Grammar.{Broken, Reading, spec_reading}
-use Rattle.rc_reader.specs.Versions.{version_number}
-use Rattle.rc_work.specs.declared.also.Also.TheVariants.{Nothing}
-use Rattle.rc_work.specs.declared.open_work.OpenWork.{OpenWork}
-use Rattle.rc_work.specs.declared.work.Work.{Work}
-use Rattle.rc_work.specs.OpenGrammar.{has_later_forms, open_reading}
-use Rattle.rc_work.specs.OpenRunLaws.{BringNone, with_no_shapes, without_shapes_works_are_read}
-use Rattle.rc_work.specs.Ranking.{work_reading}
-use Rattle.rc_work.specs.ShapesLaws.{with_none}
-use Rattle.rc_work.specs.WholeText.{place_after}
+use Rattle.rc_answer.specs.Imports.{content_from, Spec, Broken, Reading, spec_reading, version_number, Nothing, OpenWork, Work, has_later_forms, open_reading, BringNone, with_no_shapes, without_shapes_works_are_read, work_reading, with_none, place_after}
 use Rattle.rc_command.specs.declared.command.TextCommand.TheVariants as commands
 use Rattle.rc_answer.specs.declared.status.Status.{Status}
 use Rattle.rc_answer.specs.Answers.{Answers, AnswersOpen, AnswersOpenWork, AnswersRules, AnswersRun, AnswersWork, IsReport}

@@ -1,34 +1,7 @@
 -- What a run leaves, and what is written of it. (PLDI 2012, serializable transactions: the calls of all threads are one
 -- history.)
 use Rattle.std.specs.Prelude.{◌≡◌, ℕ, ◌<◌, List, [], ◌++◌, drop, length, Option, Some, None, Result, Ok, Err}
-use Rattle.rc_tuple.specs.Relation.{Satisfies}
-use Rattle.rc_tuple.specs.RisingSet.{In}
-use Rattle.rc_tuple.specs.Tuple.{Pairs}
-use Rattle.rc_text.specs.Lines.{TextPlace, past_end_of, printed_lines}
-use Rattle.rc_io.specs.Bytes.{Adds}
-use Rattle.rc_spec.specs.declared.spec.Spec.{Spec}
-use Rattle.rc_spec.specs.Acceptance.{IsAccepted}
-use Rattle.rc_plan.specs.Compiled.{ArePlansOf}
-use Rattle.rc_plan.specs.declared.statement.Statement.{Statement}
-use Rattle.rc_handplan.specs.Chosen.{AllKeepRules, AreChosen}
-use Rattle.rc_handplan.specs.HandGrammar.{HandReading, hands_reading}
-use Rattle.rc_handplan.specs.declared.hand.Hand.{Hand}
-use Rattle.rc_rel.specs.declared.entry.Entry.{Entry}
-use Rattle.rc_rel.specs.History.{AllFit, IsLegal, IsNumbered, replay, states}
-use Rattle.rc_open.specs.ShapeText.{shapes_text}
-use Rattle.rc_reader.specs.Grammar.{Reading, spec_reading}
-use Rattle.rc_reader.specs.Versions.{version_number}
-use Rattle.rc_work.specs.declared.also.Also.{Also}
-use Rattle.rc_work.specs.declared.also.Also.TheVariants.{Nothing}
-use Rattle.rc_work.specs.declared.open_work.OpenWork.{OpenWork}
-use Rattle.rc_work.specs.declared.work.Work.{Work}
-use Rattle.rc_work.specs.Limits.{HasSingleTurns}
-use Rattle.rc_work.specs.OpenGrammar.{open_reading}
-use Rattle.rc_work.specs.Shapes.{with_operations}
-use Rattle.rc_work.specs.Ranking.{work_reading}
-use Rattle.rc_work.specs.Report.{report}
-use Rattle.rc_work.specs.Runs.{HasSingleSteps, Runs}
-use Rattle.rc_command.specs.declared.command.TextCommand.{TextCommand}
+use Rattle.rc_answer.specs.Imports.{Satisfies, In, Pairs, TextPlace, past_end_of, printed_lines, Adds, Spec, IsAccepted, ArePlansOf, Statement, AllKeepRules, AreChosen, HandReading, hands_reading, Hand, Entry, AllFit, IsLegal, IsNumbered, replay, states, shapes_text, Reading, spec_reading, version_number, Also, Nothing, OpenWork, Work, HasSingleTurns, open_reading, with_operations, work_reading, report, HasSingleSteps, Runs, TextCommand, place_after}
 use Rattle.rc_command.specs.declared.command.TextCommand.TheVariants as commands
 use Rattle.rc_answer.specs.Answers.{also_of, work_in_lines}
 use Rattle.rc_answer.specs.declared.outcome.Outcome.{Outcome}
@@ -36,7 +9,6 @@ use Rattle.rc_answer.specs.declared.outcome.Ran.{Ran}
 use Rattle.rc_answer.specs.declared.status.Status.{Status}
 use Rattle.rc_answer.specs.declared.status.Status.TheVariants.{Done, Refused}
 use Rattle.rc_answer.specs.declared.status.Stop.{Stop}
-use Rattle.rc_work.specs.WholeText.{place_after}
 use Rattle.rc_answer.specs.Plans.{ArePlanned, plans_text}
 
 -- ---- the text of a run

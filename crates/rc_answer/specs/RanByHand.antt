@@ -1,12 +1,6 @@
 -- What the run of a text with written plans leaves, by the parts of the text.
 use Rattle.std.specs.Prelude.{◌≡◌, ℕ, List, Option, Ok}
-use Rattle.rc_text.specs.Lines.{ContentLine, TextPlace}
-use Rattle.rc_io.specs.Bytes.{Adds}
-use Rattle.rc_spec.specs.declared.spec.Spec.{Spec}
-use Rattle.rc_handplan.specs.Chosen.{AllKeepRules, AreChosen}
-use Rattle.rc_handplan.specs.HandGrammar.{HandReading, hands_reading}
-use Rattle.rc_handplan.specs.declared.hand.Hand.{Hand}
-use Rattle.rc_work.specs.declared.work.Work.{Work}
+use Rattle.rc_answer.specs.Imports.{ContentLine, TextPlace, Adds, Spec, AllKeepRules, AreChosen, HandReading, hands_reading, Hand, Work}
 use Rattle.rc_answer.specs.declared.outcome.Ran.{Ran}
 use Rattle.rc_answer.specs.Answers.{work_in_lines}
 use Rattle.rc_answer.specs.Ran.{IsOfItsStore, IsRunBy, run_text}

@@ -1,39 +1,9 @@
 -- Laws of runs and of their texts.
 use Rattle.std.proofs.Common.{◌≡◌, ℕ, ◌<◌, List, Option, Result, Ok, Err, length, refl, sym, ap, ◌∙◌, subst, ◌++◌}
-use Rattle.rc_text.specs.Lines.{ContentLine, TextPlace, past_end_of, printed_lines}
-use Rattle.rc_tuple.specs.RisingSet.{In}
-use Rattle.rc_spec.specs.declared.spec.Spec.{Spec}
-use Rattle.rc_spec.specs.Acceptance.{IsAccepted}
-use Rattle.rc_plan.specs.Compiled.{ArePlansOf}
-use Rattle.rc_plan.specs.declared.statement.Statement.{Statement}
-use Rattle.rc_handplan.specs.Chosen.{AreChosen}
-use Rattle.rc_reader.specs.Grammar.{Broken}
-use Rattle.rc_rel.specs.declared.entry.Entry.{Entry}
-use Rattle.rc_rel.specs.History.{AllFit, IsLegal, replay}
-use Rattle.rc_rel.specs.HistoryLaws.{states_satisfy}
-use Rattle.rc_work.specs.declared.also.Also.{Also}
-use Rattle.rc_work.specs.declared.also.Also.TheVariants.{Nothing}
-use Rattle.rc_work.specs.declared.work.Work.{Work}
-use Rattle.rc_work.specs.Limits.{HasSingleTurns}
-use Rattle.rc_work.specs.GroupsLaws.{IsOfAlso-reading_all}
-use Rattle.rc_work.specs.Ranking.{work_by, work_of, work_reading}
-use Rattle.rc_work.specs.RankingLaws.{HasSingleTurns-work_with, turns_without_groups_are_single}
-use Rattle.rc_work.specs.Report.{report}
-use Rattle.rc_work.specs.Runs.{Runs}
-use Rattle.rc_work.specs.RunsLaws.{single_turns_are_single_steps}
-use Rattle.rc_work.specs.Shapes.{with_operations}
-use Rattle.rc_work.specs.WholeText.{place_after}
-use Rattle.rc_work.specs.WorkGrammar.{draft_of, reading_all}
-use Rattle.rc_generate.specs.Summary.{summary}
-use Rattle.rc_generate.specs.Generated.{generated}
-use Rattle.rc_generate.specs.GeneratedLaws.{generated_has_single_turns, generated_summary_is_one_threads}
-use Rattle.rc_generate.specs.Sample.{sample_graph}
-use Rattle.rc_generate.specs.SampleAcceptance.{sample_is_accepted}
-use Rattle.rc_generate.specs.SummaryText.{summary_text}
+use Rattle.rc_answer.specs.Imports.{ContentLine, TextPlace, past_end_of, printed_lines, In, Spec, IsAccepted, ArePlansOf, Statement, AreChosen, Broken, Entry, AllFit, IsLegal, replay, states_satisfy, Also, Nothing, Work, HasSingleTurns, IsOfAlso-reading_all, work_by, work_of, work_reading, HasSingleTurns-work_with, turns_without_groups_are_single, report, Runs, single_turns_are_single_steps, with_operations, place_after, draft_of, reading_all, summary, generated, generated_has_single_turns, generated_summary_is_one_threads, sample_graph, sample_is_accepted, summary_text, TextCommand}
 use Rattle.rc_answer.specs.declared.outcome.Ran.{Ran}
 use Rattle.rc_answer.specs.declared.status.Status.{Status}
 use Rattle.rc_answer.specs.declared.status.Status.TheVariants.{Done}
-use Rattle.rc_command.specs.declared.command.TextCommand.{TextCommand}
 use Rattle.rc_command.specs.declared.command.TextCommand.TheVariants as commands
 use Rattle.rc_answer.specs.Answers.{IsReportBy, also_of, plans_and_report, ArePlansFor, work_in_lines}
 use Rattle.rc_answer.specs.Big.{HasSummaryText, big_text, ran_text}

@@ -1,12 +1,9 @@
 -- What refusing a text writes.
 use Rattle.std.specs.Prelude.{◌≡◌, ℕ, ◌<◌, List, length, Option, Result, Err}
-use Rattle.rc_reader.specs.declared.refusal.ReadRefusal.{ReadRefusal}
+use Rattle.rc_answer.specs.Imports.{ReadRefusal, HandFault, HandRefusal, AcceptFault}
 use Rattle.rc_reader.specs.declared.refusal.ReadRefusal.TheVariants as refusals
-use Rattle.rc_handplan.specs.declared.compiling.HandFault.{HandFault}
 use Rattle.rc_handplan.specs.declared.compiling.HandFault.TheVariants as plan_faults
-use Rattle.rc_handplan.specs.declared.refusal.HandRefusal.{HandRefusal}
 use Rattle.rc_handplan.specs.declared.refusal.HandRefusal.TheVariants as hand_refusals
-use Rattle.rc_place.specs.declared.acceptance.AcceptFault.{AcceptFault}
 use Rattle.rc_place.specs.declared.acceptance.AcceptFault.TheVariants as faults
 use Rattle.rc_answer.specs.declared.status.Status.{Status}
 use Rattle.rc_answer.specs.declared.status.Stop.{Stop}

@@ -1,7 +1,6 @@
 -- What a sink holds once a text of some kind is written, or a part of it.
 use Rattle.std.specs.Prelude.{◌≡◌, ℕ, ◌≤◌, List, Option, Result, Ok, Err, ◌⊎◌, IsErrOf, OnOk}
-use Rattle.rc_io.specs.Bytes.{Adds, AddsPrefix}
-use Rattle.rc_io.specs.Counts.{Rose}
+use Rattle.rc_answer.specs.Imports.{Adds, AddsPrefix, Rose}
 use Rattle.rc_answer.specs.declared.status.Status.{Status}
 use Rattle.rc_answer.specs.declared.status.Stop.{Stop}
 use Rattle.rc_answer.specs.declared.status.Stop.TheVariants.{Memory, Sink}

@@ -1,7 +1,6 @@
 -- The head of an entry's line.
 use Rattle.std.proofs.Common.{◌≡◌, ℕ, List, [], ◌∷◌, ◌++◌, ap, ◌∙◌}
-use Rattle.std.specs.Fmt.{decimal}
-use Rattle.std.proofs.lemmas.List.{append_assoc}
+use Rattle.rc_audit.proofs.Imports.{decimal, append_assoc}
 
 pub head_text : (place thread : ℕ) (rest : List ℕ)
     → (((decimal place ++ 32 ∷ []) ++ decimal thread) ++ 32 ∷ []) ++ rest ≡ decimal place ++ 32 ∷ (decimal thread ++ 32 ∷ rest)

@@ -1,46 +1,7 @@
 -- An entry that is judged: what it leaves, and why a line is bad.
 use Rattle.std.proofs.Common.{◌≡◌, ℕ, suc, ◌+◌, ◌<◌, ◌≤◌, ◌^◌, List, [], ◌∷◌, ◌++◌, drop, get_or, length, Err, None, Option, Some, refl, sym, ap, ◌∙◌, inl, inr, subst, arith}
-use Rattle.std.specs.Fmt.{decimal}
-use Rattle.std.specs.List.{AllByRecursion, slice_get}
-use Rattle.std.proofs.lemmas.List.{get_or_default, length-append}
-use Rattle.std.proofs.lemmas.Option.{get_or_from_slice_get}
-use Rattle.rc_tuple.specs.RisingSet.{In}
-use Rattle.rc_tuple.specs.RisingSetLaws.{append_in_left, each_in, get_or_in, slice_get_in}
-use Rattle.rc_spec.specs.declared.call.Call.{Call}
-use Rattle.rc_spec.specs.declared.items.Op.{Op}
-use Rattle.rc_spec.specs.declared.spec.Spec.{Spec}
-use Rattle.rc_spec.specs.Calls.{Fits}
-use Rattle.rc_spec.specs.Plain.{plain}
-use Rattle.rc_spec.specs.PlainLaws.{plain_grows}
-use Rattle.rc_plan.specs.Compiled.{SpecWithPlans}
-use Rattle.rc_rel.specs.declared.entry.Step.{Step}
-use Rattle.rc_rel.specs.declared.entry.Entry.{Entry}
-use Rattle.rc_rel.specs.History.{replay, steps_of}
-use Rattle.rc_rel.specs.OwnLaws.{replay_few}
-use Rattle.rc_work.specs.declared.work.Turn.{Turn}
-use Rattle.rc_work.specs.declared.work.Work.{Work}
-use Rattle.rc_work.specs.Fitting.{TurnsFit}
-use Rattle.rc_work.specs.Made.{entry_after}
-use Rattle.rc_work.specs.MadeLaws.{replay-more}
-use Rattle.rc_work.specs.Printed.{spaced, step_words_at, values_and_reply, words_text}
-use Rattle.rc_work.specs.Report.{step_line}
-use Rattle.rc_work.specs.RunLengthLaws.{few_turns, runs_have_all_turns}
-use Rattle.rc_work.specs.Runs.{HasSingleSteps}
-use Rattle.rc_work.specs.RunsLaws.{single_turns_are_single_steps}
-use Rattle.rc_audit.specs.declared.entries.Entries.{Entries}
-use Rattle.rc_audit.specs.declared.fault.Fault.{Fault}
+use Rattle.rc_audit.proofs.Imports.{decimal, AllByRecursion, slice_get, get_or_default, length-append, get_or_from_slice_get, In, append_in_left, each_in, get_or_in, slice_get_in, Call, Op, Spec, Fits, plain, plain_grows, SpecWithPlans, Step, Entry, replay, steps_of, replay_few, Turn, Work, TurnsFit, entry_after, replay-more, spaced, step_words_at, values_and_reply, words_text, step_line, few_turns, runs_have_all_turns, HasSingleSteps, single_turns_are_single_steps, Entries, Fault, Form, Relation, AreCursors, HasGoneOn, HasLeft, cursor_at, left_in, turns_from, IsNextTurn, goes_on, has_left_by, next_turn, none_from, BeginsGood, IsJudgeable, IsJudged, next_line, step_after, IsNextLine, judged_more, judged_next, thread_told, HasMet, IsAmong, IsChosen, IsOfThread, Judges, round_at, Keeps, IsMade, stands_exist}
 use Rattle.rc_audit.specs.declared.fault.Fault.TheVariants as faults
-use Rattle.rc_audit.specs.declared.form.Form.{Form}
-use Rattle.rc_audit.specs.declared.relation.Relation.{Relation}
-use Rattle.rc_audit.specs.Cursors.{AreCursors, HasGoneOn, HasLeft, cursor_at, left_in, turns_from}
-use Rattle.rc_audit.specs.CursorsLaws.{IsNextTurn, goes_on, has_left_by, next_turn, none_from}
-use Rattle.rc_audit.specs.GoodReports.{BeginsGood}
-use Rattle.rc_audit.specs.Judged.{IsJudgeable, IsJudged, next_line, step_after}
-use Rattle.rc_audit.specs.JudgedLaws.{IsNextLine, judged_more, judged_next, thread_told}
-use Rattle.rc_audit.specs.Judging.{HasMet, IsAmong, IsChosen, IsOfThread, Judges, round_at}
-use Rattle.rc_audit.specs.Keeping.{Keeps}
-use Rattle.rc_audit.specs.Left.{IsMade}
-use Rattle.rc_audit.specs.Standing.{stands_exist}
 
 -- ---- how much is done
 

@@ -1,27 +1,9 @@
 -- What a judge that passed lines says of them.
 use Rattle.std.proofs.Common.{◌≡◌, ℕ, ◌+◌, Bool, true, Err, get_or, length, arith, List, [], ◌∷◌, ◌++◌, refl, sym, ap, ◌∙◌, inl, inr, subst}
 use Rattle.std.specs.Prelude.{◌==◌, OnOk, Result, Ok, IfOk}
-use Rattle.std.proofs.lemmas.Bool.{eqb-true}
-use Rattle.std.proofs.lemmas.List.{append-nil, append_assoc, map-append}
-use Rattle.rc_text.specs.Lines.{ContentLine, bytes_of_content}
-use Rattle.rc_tuple.specs.declared.memory.Memory.{Memory}
-use Rattle.rc_plan.specs.Compiled.{SpecWithPlans}
-use Rattle.rc_work.specs.declared.work.Work.{Work}
-use Rattle.rc_audit.specs.declared.entries.Entries.{Entries}
-use Rattle.rc_audit.specs.declared.fault.Fault.{Fault}
+use Rattle.rc_audit.proofs.Imports.{eqb-true, append-nil, append_assoc, map-append, ContentLine, bytes_of_content, Memory, SpecWithPlans, Work, Entries, Fault, Form, Judge, Opening, Relation, Stage, Verdict, Bad, BeginsGood, IsGoodReport, IsVerdict, IsJudgeable, HasPassed, IsAmong, IsAtStage, IsBefore, IsOfSame, IsOpening, Judges, judged_form, judged_plans, judged_work, verdict_at, Keeps}
 use Rattle.rc_audit.specs.declared.fault.Fault.TheVariants as faults
-use Rattle.rc_audit.specs.declared.form.Form.{Form}
-use Rattle.rc_audit.specs.declared.judge.Judge.{Judge}
-use Rattle.rc_audit.specs.declared.opening.Opening.{Opening}
-use Rattle.rc_audit.specs.declared.relation.Relation.{Relation}
-use Rattle.rc_audit.specs.declared.stage.Stage.{Stage}
 use Rattle.rc_audit.specs.declared.stage.Stage.TheVariants as stages
-use Rattle.rc_audit.specs.declared.verdict.Verdict.{Verdict}
-use Rattle.rc_audit.specs.declared.verdict.Verdict.TheVariants.{Bad}
-use Rattle.rc_audit.specs.GoodReports.{BeginsGood, IsGoodReport, IsVerdict}
-use Rattle.rc_audit.specs.Judged.{IsJudgeable}
-use Rattle.rc_audit.specs.Judging.{HasPassed, IsAmong, IsAtStage, IsBefore, IsOfSame, IsOpening, Judges, judged_form, judged_plans, judged_work, verdict_at}
-use Rattle.rc_audit.specs.Keeping.{Keeps}
 use Rattle.rc_audit.proofs.StageLemmas.{among_begins, among_none, closing_begins, opening_bad, opening_begins, opening_last, opening_none}
 
 stage_begins : (form : Form) (compiled : SpecWithPlans) (work : Work) (relation : Relation) (stage : Stage) (front : List (List ℕ)) → IsJudgeable compiled.spec work

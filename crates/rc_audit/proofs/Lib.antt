@@ -5,3 +5,4 @@ pub mod RelationLemmas
 pub mod StageLemmas
 pub mod EntryLemmas
 pub mod JudgeLemmas
+mod Imports

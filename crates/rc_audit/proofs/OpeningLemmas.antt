@@ -1,11 +1,6 @@
 -- The lines of one plan more.
 use Rattle.std.proofs.Common.{◌≡◌, ℕ, ◌+◌, List, [], ◌∷◌, ◌++◌, sym, ap, ◌∙◌, arith}
-use Rattle.std.specs.List.{flat_map, range_with_len}
-use Rattle.std.proofs.lemmas.List.{append-nil, map-id}
-use Rattle.std.proofs.lemmas.List.Concat.{flat_map-append}
-use Rattle.std.proofs.lemmas.List.FromFn.{map-range_with_len_more}
-use Rattle.rc_plan.specs.Compiled.{SpecWithPlans}
-use Rattle.rc_audit.specs.GoodReports.{op_lines}
+use Rattle.rc_audit.proofs.Imports.{flat_map, range_with_len, append-nil, map-id, flat_map-append, map-range_with_len_more, SpecWithPlans, op_lines}
 
 numbers_more : (n : ℕ) → range_with_len 0 (n + 1) ≡ range_with_len 0 n ++ n ∷ []
 numbers_more n =

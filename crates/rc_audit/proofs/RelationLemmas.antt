@@ -1,24 +1,7 @@
 -- A call that is made on the judge's relation, and released.
 use Rattle.std.specs.Prelude.{◌≡◌, ℕ, zero, suc, ◌+◌, ◌<◌, ◌^◌, List, [], ◌∷◌, None, get_or, length}
 use Rattle.std.proofs.Common.{inl, inr, refl, sym, ap, subst, arith, ◌∙◌}
-use Rattle.std.proofs.lemmas.Option.{slice_get_within}
-use Rattle.rc_tuple.specs.RisingSet.{In}
-use Rattle.rc_tuple.specs.Tuple.{Pairs}
-use Rattle.rc_spec.specs.Calls.{Fits}
-use Rattle.rc_spec.specs.CallsLaws.{plain_keeps_relation}
-use Rattle.rc_spec.specs.Plain.{plain}
-use Rattle.rc_spec.specs.PlainLaws.{plain_satisfies}
-use Rattle.rc_spec.specs.Stripes.{stripe_total}
-use Rattle.rc_spec.specs.declared.call.Call.{Call}
-use Rattle.rc_spec.specs.declared.call.Reply.{Reply}
-use Rattle.rc_spec.specs.declared.spec.Spec.{Spec}
-use Rattle.rc_fragment.specs.Holder.{GoesOn, HasRisen, HeldStripe, IsHeld, held_of}
-use Rattle.rc_instance.specs.Instance.{AreReleased, IsOfRelation, Stripe, held_from, holding, offered_at}
-use Rattle.rc_instance.specs.InstanceLaws.{IsHeldFrom, held_of-holding, in_held_from, offered-length, released_law}
-use Rattle.rc_plan.specs.Compiled.{SpecWithPlans, plan_at}
-use Rattle.rc_machine.specs.Machine.{AreTakenAsOffered, HasAnswered, HasServed}
-use Rattle.rc_machine.specs.Offers.{OffersAll}
-use Rattle.rc_machine.specs.OffersLaws.{others_after, still_offers, taken_of_relation}
+use Rattle.rc_audit.proofs.Imports.{slice_get_within, In, Pairs, Fits, plain_keeps_relation, plain, plain_satisfies, stripe_total, Call, Reply, Spec, GoesOn, HasRisen, HeldStripe, IsHeld, held_of, AreReleased, IsOfRelation, Stripe, held_from, holding, offered_at, IsHeldFrom, held_of-holding, in_held_from, offered-length, released_law, SpecWithPlans, plan_at, AreTakenAsOffered, HasAnswered, HasServed, OffersAll, others_after, still_offers, taken_of_relation}
 
 -- an instance has no refused take
 pub none_risen : (old new : List Stripe) → HasRisen (holding old).refusals (holding new).refusals → ⊥

@@ -1,33 +1,6 @@
 -- The stages of a report: what a line leaves of each, and why one is bad.
 use Rattle.std.proofs.Common.{◌≡◌, ℕ, zero, suc, ◌+◌, ◌-◌, ◌<◌, ◌≤◌, inl, inr, List, [], ◌∷◌, ◌++◌, drop, take, get_or, length, Option, Some, None, refl, sym, ap, ◌∙◌, subst, arith}
-use Rattle.std.specs.List.{slice_get}
-use Rattle.std.proofs.lemmas.List.{append-nil, append_assoc, drop_more, take-append-drop, nil_from_length, take_all}
-use Rattle.std.proofs.lemmas.Bool.{cases_lt}
-use Rattle.std.proofs.Math.ListN.{drop_of_length-le}
-use Rattle.std.proofs.lemmas.Option.{get_or_from_slice_get, slice_get-get_or, slice_get_within}
-use Rattle.rc_tuple.specs.RisingSetLaws.{slice_get_there}
-use Rattle.rc_spec.specs.declared.spec.Spec.{Spec}
-use Rattle.rc_plan.specs.Compiled.{SpecWithPlans}
-use Rattle.rc_rel.specs.declared.entry.Entry.{Entry}
-use Rattle.rc_work.specs.declared.work.Turn.{Turn}
-use Rattle.rc_work.specs.declared.work.Work.{Work}
-use Rattle.rc_work.specs.Made.{HasTurnsBelow}
-use Rattle.rc_work.specs.Runs.{thread_turns}
-use Rattle.rc_audit.specs.declared.closing.Closing.{Closing}
-use Rattle.rc_audit.specs.declared.entries.Entries.{Entries}
-use Rattle.rc_audit.specs.declared.form.Form.{Form}
-use Rattle.rc_audit.specs.declared.opening.Opening.{Opening}
-use Rattle.rc_audit.specs.declared.relation.Relation.{Relation}
-use Rattle.rc_audit.specs.Cursors.{AreCursors, HasLeft, HaveBegun, left_in}
-use Rattle.rc_audit.specs.CursorsLaws.{has_left_by, left_at_start, next_turn, none_left}
-use Rattle.rc_audit.specs.GoodReports.{BeginsGood, IsGoodReport}
-use Rattle.rc_audit.specs.Judged.{IsJudgeable, IsJudged, closing_lines, opening_lines}
-use Rattle.rc_audit.specs.JudgedLaws.{judged_begins, judged_end, judged_round, judged_same, judged_start, judged_wants}
-use Rattle.rc_audit.specs.Judging.{HasSomeLeft, IsAmong, IsBefore, IsBetween, IsClosing, IsFirstFilled, IsOpening, round_at, tail_lines}
-use Rattle.rc_audit.specs.Keeping.{Keeps}
-use Rattle.rc_audit.specs.LeftLaws.{turn_mine}
-use Rattle.rc_audit.specs.Standing.{no_turns, turns_in}
-use Rattle.rc_audit.specs.WantedLaws.{IsWanted, begins_shorter, closing_is_wanted, good_begins, more_is_bad, opening_is_wanted, other_is_bad, wanted_is_not_all, whole_is_good}
+use Rattle.rc_audit.proofs.Imports.{slice_get, append-nil, append_assoc, drop_more, take-append-drop, nil_from_length, take_all, cases_lt, drop_of_length-le, get_or_from_slice_get, slice_get-get_or, slice_get_within, slice_get_there, Spec, SpecWithPlans, Entry, Turn, Work, HasTurnsBelow, thread_turns, Closing, Entries, Form, Opening, Relation, AreCursors, HasLeft, HaveBegun, left_in, has_left_by, left_at_start, next_turn, none_left, BeginsGood, IsGoodReport, IsJudgeable, IsJudged, closing_lines, opening_lines, judged_begins, judged_end, judged_round, judged_same, judged_start, judged_wants, HasSomeLeft, IsAmong, IsBefore, IsBetween, IsClosing, IsFirstFilled, IsOpening, round_at, tail_lines, Keeps, turn_mine, no_turns, turns_in, IsWanted, begins_shorter, closing_is_wanted, good_begins, more_is_bad, opening_is_wanted, other_is_bad, wanted_is_not_all, whole_is_good}
 use Rattle.rc_audit.proofs.ListLemmas.{one_more, parted}
 
 module _ (form : Form) (compiled : SpecWithPlans) (work : Work) (can : IsJudgeable compiled.spec work) where

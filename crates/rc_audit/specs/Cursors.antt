@@ -1,9 +1,6 @@
 -- The turns that are left of a round, by an index for each thread: that of its next turn, or the round's end.
 use Rattle.std.specs.Prelude.{◌≡◌, ◌⊎◌, ℕ, ◌+◌, ◌<◌, List, drop, get_or, length, set, Some}
-use Rattle.std.specs.List.{slice_get}
-use Rattle.rc_spec.specs.declared.call.Call.{Call}
-use Rattle.rc_work.specs.declared.work.Turn.{Turn}
-use Rattle.rc_work.specs.Runs.{thread_turns}
+use Rattle.rc_audit.specs.Imports.{slice_get, Call, Turn, thread_turns}
 
 -- the index of a thread, which is the round's end where it has none
 abbrev pub cursor_at : List Turn → List ℕ → ℕ → ℕ

@@ -1,13 +1,9 @@
 -- What places of threads in a round say of the turns that are left.
 use Rattle.std.proofs.Common.{◌≡◌, ℕ, zero, suc, ◌+◌, ◌<◌, ◌≤◌, List, [], ◌∷◌, ◌++◌, drop, get_or, set, length, Some, refl, sym, ap, ◌∙◌, inl, inr, subst, arith}
-use Rattle.std.specs.List.{slice_get}
+use Rattle.rc_audit.specs.Imports.{slice_get, Call, Turn, HasTurnsBelow, thread_turns}
 use Rattle.std.proofs.lemmas.Bool.{cases_eq, cases_lt}
 use Rattle.std.proofs.lemmas.List.{drop_more, get_or_append_left, get_or-set_same, get_or-set_other, length-append, length-set}
 use Rattle.std.proofs.lemmas.Option.{get_or_from_slice_get, slice_get_within}
-use Rattle.rc_spec.specs.declared.call.Call.{Call}
-use Rattle.rc_work.specs.declared.work.Turn.{Turn}
-use Rattle.rc_work.specs.Made.{HasTurnsBelow}
-use Rattle.rc_work.specs.Runs.{thread_turns}
 use Rattle.rc_audit.specs.Cursors.{AreCursors, HasGoneOn, HasLeft, HaveBegun, IsTurnOf, cursor_at, left_in, turns_from}
 use Rattle.rc_audit.specs.Left.{AreNoneFrom, IsMade, NoneLeft}
 use Rattle.rc_audit.specs.LeftLaws.{not_none, turn_mine, turns_none}

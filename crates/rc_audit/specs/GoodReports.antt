@@ -1,16 +1,6 @@
 -- Good reports of a specification with its plans and a workload, in one of two forms, and the verdict on a list of content lines.
 use Rattle.std.specs.Prelude.{◌≡◌, ◌⊎◌, ℕ, List, [], ◌∷◌, ◌++◌, length, codes}
-use Rattle.std.specs.List.{flat_map, range_with_len}
-use Rattle.rc_text.specs.Lines.{ContentLine, bytes_of_content}
-use Rattle.rc_spec.specs.declared.spec.Spec.{Spec}
-use Rattle.rc_plan.specs.declared.statement.Statement.{Statement}
-use Rattle.rc_plan.specs.Compiled.{SpecWithPlans, plan_at}
-use Rattle.rc_plan.specs.PlanText.{plan_lines}
-use Rattle.rc_rel.specs.declared.entry.Entry.{Entry}
-use Rattle.rc_rel.specs.History.{replay}
-use Rattle.rc_work.specs.declared.work.Work.{Work}
-use Rattle.rc_work.specs.Report.{count_line, journal_lines, report}
-use Rattle.rc_work.specs.Runs.{Runs}
+use Rattle.rc_audit.specs.Imports.{flat_map, range_with_len, ContentLine, bytes_of_content, Spec, Statement, SpecWithPlans, plan_at, plan_lines, Entry, replay, Work, count_line, journal_lines, report, Runs}
 use Rattle.rc_audit.specs.declared.form.Form.{Form}
 use Rattle.rc_audit.specs.declared.form.Form.TheVariants.{Run, Journal}
 use Rattle.rc_audit.specs.declared.verdict.Verdict.{Verdict}

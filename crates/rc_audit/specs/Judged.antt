@@ -1,20 +1,6 @@
 -- What the lines so far tell of a run.
 use Rattle.std.specs.Prelude.{◌≡◌, ℕ, List, [], ◌∷◌, ◌++◌, codes, length, sum_by}
-use Rattle.std.specs.List.{enumerate_from, flat_map}
-use Rattle.rc_tuple.specs.Tuple.{Pairs}
-use Rattle.rc_spec.specs.declared.spec.Spec.{Spec}
-use Rattle.rc_spec.specs.declared.call.Call.{Call}
-use Rattle.rc_spec.specs.Plain.{plain}
-use Rattle.rc_plan.specs.Compiled.{SpecWithPlans}
-use Rattle.rc_rel.specs.declared.entry.Entry.{Entry}
-use Rattle.rc_rel.specs.declared.entry.Step.{Step}
-use Rattle.rc_rel.specs.History.{replay}
-use Rattle.rc_work.specs.declared.work.Turn.{Turn}
-use Rattle.rc_work.specs.declared.work.Work.{Work}
-use Rattle.rc_work.specs.Fitting.{HasThreads, RoundsFit}
-use Rattle.rc_work.specs.Limits.{HasSingleTurns, KeepsLimits}
-use Rattle.rc_work.specs.Report.{count_line, entry_lines, final_lines, journal_lines, step_line}
-use Rattle.rc_work.specs.Runs.{Runs}
+use Rattle.rc_audit.specs.Imports.{enumerate_from, flat_map, Pairs, Spec, Call, plain, SpecWithPlans, Entry, Step, replay, Turn, Work, HasThreads, RoundsFit, HasSingleTurns, KeepsLimits, count_line, entry_lines, final_lines, journal_lines, step_line, Runs}
 use Rattle.rc_audit.specs.declared.form.Form.{Form}
 use Rattle.rc_audit.specs.declared.form.Form.TheVariants.{Run, Journal}
 use Rattle.rc_audit.specs.GoodReports.{good_lines, plans_in_lines}

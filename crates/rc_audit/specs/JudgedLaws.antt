@@ -1,24 +1,8 @@
 -- Which line may come next in a report, and what it tells.
 use Rattle.std.proofs.Common.{◌≡◌, ℕ, suc, ◌+◌, ◌<◌, ◌^◌, List, [], ◌∷◌, ◌++◌, length, refl, sym, ap, ◌∙◌, inl, subst, arith}
-use Rattle.std.specs.Prelude.{codes, sum_by}
-use Rattle.std.specs.Fmt.{decimal}
+use Rattle.rc_audit.specs.Imports.{codes, sum_by, decimal, In, append_in_right, Spec, Call, SpecWithPlans, Entry, Step, Turn, Work, Ends, decimal_one, entry_after, spaced, step_words, count_line, entry_lines, journal_lines, step_line, runs_have_all_turns, Runs, single_turns_are_single_steps}
 use Rattle.std.proofs.lemmas.List.{append-nil, append_assoc, append_cancel_left, length-map}
-use Rattle.rc_tuple.specs.RisingSet.{In}
-use Rattle.rc_tuple.specs.RisingSetLaws.{append_in_right}
-use Rattle.rc_spec.specs.declared.spec.Spec.{Spec}
-use Rattle.rc_spec.specs.declared.call.Call.{Call}
-use Rattle.rc_plan.specs.Compiled.{SpecWithPlans}
-use Rattle.rc_rel.specs.declared.entry.Entry.{Entry}
-use Rattle.rc_rel.specs.declared.entry.Step.{Step}
-use Rattle.rc_work.specs.declared.work.Turn.{Turn}
-use Rattle.rc_work.specs.declared.work.Work.{Work}
-use Rattle.rc_work.specs.CutLaws.{Ends, decimal_one}
-use Rattle.rc_work.specs.Made.{entry_after}
-use Rattle.rc_work.specs.Printed.{spaced, step_words}
-use Rattle.rc_work.specs.Report.{count_line, entry_lines, journal_lines, report, step_line}
-use Rattle.rc_work.specs.RunLengthLaws.{runs_have_all_turns}
-use Rattle.rc_work.specs.Runs.{Runs}
-use Rattle.rc_work.specs.RunsLaws.{single_turns_are_single_steps}
+use Rattle.rc_work.specs.Report.{report}
 use Rattle.rc_audit.specs.declared.form.Form.{Form}
 use Rattle.rc_audit.specs.declared.form.Form.TheVariants.{Run, Journal}
 use Rattle.rc_audit.specs.GoodReports.{BeginsGood, IsGoodReport, good_lines}

@@ -1,16 +1,6 @@
 -- Where a judge stands, and what its calls leave.
 use Rattle.std.specs.Prelude.{◌≡◌, ℕ, ◌+◌, ◌<◌, ◌≤◌, List, [], ◌∷◌, ◌++◌, drop, get_or, length, take, Option, Some, None, Result, Ok, Err, codes, decimal}
-use Rattle.rc_tuple.specs.Tuple.{Pairs}
-use Rattle.rc_tuple.specs.declared.memory.Memory.{Memory}
-use Rattle.rc_spec.specs.declared.call.Call.{Call}
-use Rattle.rc_spec.specs.declared.spec.Spec.{Spec}
-use Rattle.rc_spec.specs.Plain.{plain}
-use Rattle.rc_plan.specs.Compiled.{SpecWithPlans}
-use Rattle.rc_rel.specs.declared.entry.Entry.{Entry}
-use Rattle.rc_rel.specs.History.{replay}
-use Rattle.rc_work.specs.declared.work.Turn.{Turn}
-use Rattle.rc_work.specs.declared.work.Work.{Work}
-use Rattle.rc_work.specs.Report.{final_lines, step_line}
+use Rattle.rc_audit.specs.Imports.{Pairs, Memory, Call, Spec, plain, SpecWithPlans, Entry, replay, Turn, Work, final_lines, step_line}
 use Rattle.rc_audit.specs.declared.closing.Closing.{Closing}
 use Rattle.rc_audit.specs.declared.entries.Entries.{Entries}
 use Rattle.rc_audit.specs.declared.fault.Fault.{Fault}

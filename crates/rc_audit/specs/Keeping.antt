@@ -1,12 +1,6 @@
 -- What the judge's relation is.
 use Rattle.std.specs.Prelude.{◌≡◌, List, [], Result, Ok, Err}
-use Rattle.rc_tuple.specs.Tuple.{Pairs}
-use Rattle.rc_tuple.specs.declared.memory.Memory.{Memory}
-use Rattle.rc_spec.specs.declared.call.Call.{Call}
-use Rattle.rc_spec.specs.declared.call.Reply.{Reply}
-use Rattle.rc_spec.specs.declared.spec.Spec.{Spec}
-use Rattle.rc_spec.specs.Plain.{plain}
-use Rattle.rc_instance.specs.Instance.{IsOfRelation, held_from}
+use Rattle.rc_audit.specs.Imports.{Pairs, Memory, Call, Reply, Spec, plain, IsOfRelation, held_from}
 use Rattle.rc_audit.specs.declared.relation.Relation.{Relation}
 
 -- its instance is of these tuples, and no stripe is held

@@ -1,10 +1,6 @@
 -- Turns that are left: of a round that has begun, and of the rounds after it.
 use Rattle.std.specs.Prelude.{◌≡◌, ◌≢◌, ℕ, ◌≤◌, List, [], ◌∷◌, ◌++◌}
-use Rattle.rc_spec.specs.declared.call.Call.{Call}
-use Rattle.rc_rel.specs.declared.entry.Entry.{Entry}
-use Rattle.rc_rel.specs.History.{own}
-use Rattle.rc_work.specs.declared.work.Turn.{Turn}
-use Rattle.rc_work.specs.Runs.{MakesRounds, turns_of}
+use Rattle.rc_audit.specs.Imports.{Call, Entry, own, Turn, MakesRounds, turns_of}
 
 -- The entries make first the turns that are left of a round, each thread its own in order, and then the rounds after it.
 abbrev pub MakesRest : (ℕ → List (List Call)) → List (List Turn) → List Entry → Type 0

@@ -1,19 +1,9 @@
 -- What an entry more leaves of a round, and that what is left can be made.
 use Rattle.std.proofs.Common.{◌≡◌, ◌≢◌, ℕ, zero, suc, ◌<◌, ◌≤◌, cond, List, [], ◌∷◌, ◌++◌, map, refl, sym, ap, ◌∙◌, inl, inr, subst, arith}
 use Rattle.std.specs.Prelude.{◌==◌, filter}
-use Rattle.std.specs.List.{AllByRecursion}
+use Rattle.rc_audit.specs.Imports.{AllByRecursion, Spec, Call, Step, Entry, IsLegal, IsNumbered, own, Turn, GoesOn, HasTurnsBelow, both_more, made_in_order, rounds_go_on, below_append, thread_turns-append, MakesRounds, thread_turns, turns_of}
 use Rattle.std.proofs.lemmas.Bool.{cases_eq, cases_lt, eq-eqb, ne_eqb}
 use Rattle.std.proofs.lemmas.List.{append-nil}
-use Rattle.rc_spec.specs.declared.spec.Spec.{Spec}
-use Rattle.rc_spec.specs.declared.call.Call.{Call}
-use Rattle.rc_rel.specs.declared.entry.Step.{Step}
-use Rattle.rc_rel.specs.declared.entry.Entry.{Entry}
-use Rattle.rc_rel.specs.History.{IsLegal, IsNumbered, own}
-use Rattle.rc_work.specs.declared.work.Turn.{Turn}
-use Rattle.rc_work.specs.Made.{GoesOn, HasTurnsBelow}
-use Rattle.rc_work.specs.MadeLaws.{both_more, made_in_order, rounds_go_on}
-use Rattle.rc_work.specs.RunLengthLaws.{below_append, thread_turns-append}
-use Rattle.rc_work.specs.Runs.{MakesRounds, thread_turns, turns_of}
 use Rattle.rc_audit.specs.Left.{AreNoneFrom, IsMade, MakesRest, NoneLeft}
 
 -- ---- the turn of an entry

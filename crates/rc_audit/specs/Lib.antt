@@ -12,3 +12,4 @@ pub mod Cursors
 pub mod CursorsLaws
 pub mod Keeping
 pub mod Judging
+pub mod Imports

@@ -1,23 +1,9 @@
 -- What comes next in a run whose first entries are done: the next turn of a thread that has one left, with the plain replies.
 use Rattle.std.proofs.Common.{◌≡◌, ℕ, suc, ◌+◌, cond, List, [], ◌∷◌, ◌++◌, get_or, length, map, refl, sym, ap, ◌∙◌, subst, arith}
-use Rattle.std.specs.List.{range_with_len}
+use Rattle.rc_audit.specs.Imports.{range_with_len, Pairs, Spec, Call, plain, Step, Entry, AreLegalFrom, IsLegal, IsNumbered, after_steps, own, replay, steps_of, steps_of-append, own-append, Turn, Work, entry_after, plain_steps, legal_are_plain, MakesRounds, Runs}
 use Rattle.std.proofs.lemmas.Bool.{eq-eqb}
 use Rattle.std.proofs.lemmas.List.{length-append, length-map, map-append}
 use Rattle.std.proofs.lemmas.List.FromFn.{get_or-range_with_len}
-use Rattle.rc_tuple.specs.Tuple.{Pairs}
-use Rattle.rc_spec.specs.declared.spec.Spec.{Spec}
-use Rattle.rc_spec.specs.declared.call.Call.{Call}
-use Rattle.rc_spec.specs.Plain.{plain}
-use Rattle.rc_rel.specs.declared.entry.Step.{Step}
-use Rattle.rc_rel.specs.declared.entry.Entry.{Entry}
-use Rattle.rc_rel.specs.History.{AreLegalFrom, IsLegal, IsNumbered, after_steps, own, replay, steps_of}
-use Rattle.rc_rel.specs.HistoryLaws.{steps_of-append}
-use Rattle.rc_rel.specs.OwnLaws.{own-append}
-use Rattle.rc_work.specs.declared.work.Turn.{Turn}
-use Rattle.rc_work.specs.declared.work.Work.{Work}
-use Rattle.rc_work.specs.Made.{entry_after, plain_steps}
-use Rattle.rc_work.specs.MadeLaws.{legal_are_plain}
-use Rattle.rc_work.specs.Runs.{MakesRounds, Runs}
 use Rattle.rc_audit.specs.Left.{NoneLeft}
 use Rattle.rc_audit.specs.LeftLaws.{rest_begins, rest_none_left, turn_of}
 use Rattle.rc_audit.specs.Standing.{Stands}

@@ -1,13 +1,7 @@
 -- The lines that are wanted of a plan are those in which it is printed.
 use Rattle.std.proofs.Common.{◌≡◌, ℕ, List, [], ◌∷◌, ◌++◌, ap}
-use Rattle.std.specs.Prelude.{codes}
+use Rattle.rc_audit.specs.Imports.{codes, printed_lines, Spec, op_at, Statement, plan_at, plan_text, statement_text}
 use Rattle.std.proofs.lemmas.List.Folds.{flat_map-map}
-use Rattle.rc_text.specs.Lines.{printed_lines}
-use Rattle.rc_spec.specs.declared.spec.Spec.{Spec}
-use Rattle.rc_spec.specs.Placement.{op_at}
-use Rattle.rc_plan.specs.declared.statement.Statement.{Statement}
-use Rattle.rc_plan.specs.Compiled.{plan_at}
-use Rattle.rc_plan.specs.PlanText.{plan_text, statement_text}
 use Rattle.rc_audit.specs.GoodReports.{op_lines}
 
 -- each with a line feed behind it, they are the text of the plan

@@ -1,19 +1,8 @@
 -- Where a journal stands that some entries have begun, and that it can always go on.
 use Rattle.std.proofs.Common.{◌≡◌, ℕ, ◌<◌, List, [], ◌∷◌, ◌++◌, refl, sym, ◌∙◌, inl, inr, subst}
-use Rattle.std.specs.List.{AllByRecursion}
+use Rattle.rc_audit.specs.Imports.{AllByRecursion, Spec, Call, Entry, IsLegal, IsNumbered, replay, numbered_more, Turn, Work, HasThreads, HasPassesBelow, HasTurnsBelow, entry_after, calls_of_plain, legal_more, one_pass, passes_append, MakesRounds, Runs, thread_turns}
 use Rattle.std.proofs.lemmas.Bool.{cases_lt}
 use Rattle.std.proofs.lemmas.List.{append_assoc}
-use Rattle.rc_spec.specs.declared.spec.Spec.{Spec}
-use Rattle.rc_spec.specs.declared.call.Call.{Call}
-use Rattle.rc_rel.specs.declared.entry.Entry.{Entry}
-use Rattle.rc_rel.specs.History.{IsLegal, IsNumbered, replay}
-use Rattle.rc_rel.specs.OwnLaws.{numbered_more}
-use Rattle.rc_work.specs.declared.work.Turn.{Turn}
-use Rattle.rc_work.specs.declared.work.Work.{Work}
-use Rattle.rc_work.specs.Fitting.{HasThreads}
-use Rattle.rc_work.specs.Made.{HasPassesBelow, HasTurnsBelow, entry_after}
-use Rattle.rc_work.specs.MadeLaws.{calls_of_plain, legal_more, one_pass, passes_append}
-use Rattle.rc_work.specs.Runs.{MakesRounds, Runs, thread_turns}
 use Rattle.rc_audit.specs.Left.{AreNoneFrom, IsMade, MakesRest, NoneLeft}
 use Rattle.rc_audit.specs.LeftLaws.{none_left_rest, not_none, rest_after, rest_before, rest_goes_on, rest_none_left, rest_same, turn_of, turns_none}
 

@@ -1,11 +1,7 @@
 -- There is one verdict on a list of content lines.
 use Rattle.std.proofs.Common.{◌≡◌, ◌⊎◌, ℕ, List, [], ◌∷◌, ◌++◌, sym, ap, ◌∙◌, inl, inr, subst}
 use Rattle.std.proofs.lemmas.List.{append_assoc, map-append}
-use Rattle.rc_text.specs.Lines.{ContentLine, bytes_of_content}
-use Rattle.rc_plan.specs.Compiled.{SpecWithPlans}
-use Rattle.rc_work.specs.declared.work.Work.{Work}
-use Rattle.rc_work.specs.Fitting.{HasThreads}
-use Rattle.rc_work.specs.RunLengthLaws.{runs_have_all_turns}
+use Rattle.rc_audit.specs.Imports.{ContentLine, bytes_of_content, SpecWithPlans, Work, HasThreads, runs_have_all_turns}
 use Rattle.rc_audit.specs.declared.form.Form.{Form}
 use Rattle.rc_audit.specs.declared.verdict.Verdict.{Verdict}
 use Rattle.rc_audit.specs.declared.verdict.Verdict.TheVariants.{Legal, Bad}

@@ -1,10 +1,7 @@
 -- Lines that each good report has next.
 use Rattle.std.proofs.Common.{◌≡◌, ℕ, List, [], ◌∷◌, ◌++◌, length, sym, ap, ◌∙◌, subst, refl}
 use Rattle.std.proofs.lemmas.List.{append-nil, append_assoc, append_cancel_left}
-use Rattle.rc_plan.specs.Compiled.{SpecWithPlans}
-use Rattle.rc_rel.specs.declared.entry.Entry.{Entry}
-use Rattle.rc_work.specs.declared.work.Work.{Work}
-use Rattle.rc_work.specs.Runs.{Runs}
+use Rattle.rc_audit.specs.Imports.{SpecWithPlans, Entry, Work, Runs}
 use Rattle.rc_audit.specs.declared.form.Form.{Form}
 use Rattle.rc_audit.specs.GoodReports.{BeginsGood, IsGoodReport, good_lines}
 use Rattle.rc_audit.specs.Judged.{IsJudgeable, IsWhole, closing_lines, lines_behind, opening_lines}

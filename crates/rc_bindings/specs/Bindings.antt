@@ -1,10 +1,6 @@
 -- Bindings: tuples over the same columns, in registers that lie one behind the other.
 use Rattle.std.specs.Prelude.{◌≡◌, ◌⊎◌, ℕ, zero, suc, ◌<◌, ◌≤◌, ◌∷◌, ◌++◌, ◌^◌, List, [], take, drop, length}
-use Rattle.std.specs.List.{zip}
-use Rattle.rc_tuple.specs.ColSet.{Within}
-use Rattle.rc_tuple.specs.RisingSet.{In}
-use Rattle.rc_tuple.specs.Tuple.{Pairs, project}
-use Rattle.rc_spec.specs.InRange.{IsSetBelow}
+use Rattle.rc_bindings.specs.Imports.{zip, Within, In, Pairs, project, IsSetBelow}
 use Rattle.rc_bindings.specs.Registers.{tuple_in, values_of}
 
 -- what is seen of one binding: its columns, which are below the width, and the tuple

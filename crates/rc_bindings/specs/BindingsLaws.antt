@@ -3,17 +3,8 @@ use Rattle.std.proofs.Common.{◌≡◌, ℕ, zero, suc, ◌+◌, ◌*◌, ◌<�
 use Rattle.std.proofs.lemmas.List.{append-nil, append_assoc, take-append-le, drop-append-le, drop-drop, drop-take, take-take, take_all, length-append, length-drop, length-take-le, map-append}
 use Rattle.std.proofs.Math.ListN.{drop_of_length-le}
 use Rattle.std.proofs.Math.Nat.{le-mul_of_pos_right, mul-le-mul_right, suc-mul, zero-mul}
-use Rattle.std.specs.declared.cmp.Ordering.{Ordering}
-use Rattle.std.specs.declared.cmp.Ordering.TheVariants.{Less}
-use Rattle.rc_tuple.specs.RisingSet.{In, IsRising}
-use Rattle.rc_tuple.specs.RisingSetLaws.{IsOrder, in_append, map_in}
-use Rattle.std.specs.List.{flat_map, zip}
+use Rattle.rc_bindings.specs.Imports.{Ordering, Less, In, IsRising, IsOrder, in_append, map_in, flat_map, zip, Within, Pairs, agrees, cols_of, merge, merges_of, pair_cmp, project, GivesOne, cols_of-zip, one_pair, rising_cols, nat_cmp, IsSetBelow}
 use Rattle.std.proofs.lemmas.List.Elements.{filter-append}
-use Rattle.rc_tuple.specs.ColSet.{Within}
-use Rattle.rc_tuple.specs.Tuple.{Pairs, agrees, cols_of, merge, merges_of, pair_cmp, project}
-use Rattle.rc_tuple.specs.TupleLaws.{GivesOne, cols_of-zip, one_pair, rising_cols}
-use Rattle.std.specs.Ordering.{nat_cmp}
-use Rattle.rc_spec.specs.InRange.{IsSetBelow}
 use Rattle.rc_bindings.specs.Registers.{all_written, fits_all, tuple_in, values_of}
 use Rattle.rc_bindings.specs.RegistersLaws.{cols_of-tuple_in, fits_all-agree, merge-given}
 use Rattle.rc_bindings.specs.Bindings.{AreBindings, AreRows, BindingList, IsGivenBy, IsRowWith, TakesRows, given, key_and_extra, seen_one, tuples_in}

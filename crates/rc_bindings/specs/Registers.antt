@@ -1,8 +1,6 @@
 -- A tuple in registers: a value for each column below a width, of which those of some columns count.
 use Rattle.std.specs.Prelude.{ℕ, ◌==◌, ◌||◌, Bool, not, List, [], ◌∷◌, filter, get_or, map, set}
-use Rattle.std.specs.List.{list_all, range_with_len}
-use Rattle.rc_tuple.specs.ColSet.{has}
-use Rattle.rc_tuple.specs.Tuple.{Pairs}
+use Rattle.rc_bindings.specs.Imports.{list_all, range_with_len, has, Pairs}
 
 -- the value in the register of a column
 abbrev pub register : List ℕ → ℕ → ℕ

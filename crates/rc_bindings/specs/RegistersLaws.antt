@@ -1,31 +1,16 @@
 -- Laws of tuples in registers.
 use Rattle.std.proofs.Common.{◌≡◌, ℕ, zero, suc, ◌+◌, ◌<◌, ◌^◌, ◌==◌, ◌||◌, ◌&&◌, Bool, true, false, cond, not, None, Option, Some, eqb, List, [], ◌∷◌, ◌++◌, length, map, filter, get_or, set, take, refl, sym, ap, ◌∙◌, inl, inr, ◌⊎◌, subst, arith}
 use Rattle.std.proofs.Math.ListN.{length-set}
-use Rattle.std.specs.Option.{option_eq, unwrap_or}
+use Rattle.rc_bindings.specs.Imports.{option_eq, unwrap_or, Result, Ok, Err, IfOk, OnOk, fold, range_with_len, zip, nat_cmp, ordering_then, nat_cmp_is, Ordering, Less, Equal, Greater, In, IsRising, in_map, map_in, get_or_in, same_rising, in_has, has_in, nat_order, not_below_itself, same_bool, list_all_in, in_list_all, rising_filter, in_filter, filter_in, slice_get, IsColSet, Within, has, inter, inter_in, rank_more, slice_get-rank, rising_range, in_range_below, range_with_len_more, Pairs, IsTuple, agrees, cols_of, get, merge, pair_cmp, project, tuple_cmp, value, zip_more, GivesOne, one_pair, agree_from, agrees_to, in_project, project_in, rising_cols, rising_pairs, pair_order, in_merge, merge_left, merge_right, rising_merge, IsSetBelow, hash_of, mix}
 use Rattle.std.proofs.lemmas.Option.{none-some}
 use Rattle.std.proofs.lemmas.Bool.{and_from, eqb-true, eq-eqb, false≢true, or_cases, or_left, or_right}
 use Rattle.std.proofs.lemmas.List.{get_or-set_same, get_or-set_other}
-use Rattle.std.specs.Prelude.{Result, Ok, Err, IfOk, OnOk}
 use Rattle.std.proofs.Math.Seq.{take-suc}
 use Rattle.std.proofs.lemmas.Option.{slice_get_within}
 use Rattle.std.proofs.lemmas.List.{append-nil, length-take-le, map-append, take_all}
 use Rattle.std.proofs.lemmas.List.Elements.{filter-append}
 use Rattle.std.proofs.lemmas.List.Sums.{fold-append}
-use Rattle.std.specs.List.{fold, range_with_len, zip}
-use Rattle.std.specs.Ordering.{nat_cmp, ordering_then}
-use Rattle.std.specs.Cmp.{nat_cmp_is}
 use Rattle.std.proofs.lemmas.Cmp.{ranked}
-use Rattle.std.specs.declared.cmp.Ordering.{Ordering}
-use Rattle.std.specs.declared.cmp.Ordering.TheVariants.{Less, Equal, Greater}
-use Rattle.rc_tuple.specs.RisingSet.{In, IsRising}
-use Rattle.rc_tuple.specs.RisingSetLaws.{in_map, map_in, get_or_in, same_rising, in_has, has_in, nat_order, not_below_itself, same_bool, list_all_in, in_list_all, rising_filter, in_filter, filter_in}
-use Rattle.std.specs.List.{slice_get}
-use Rattle.rc_tuple.specs.ColSet.{IsColSet, Within, has, inter}
-use Rattle.rc_tuple.specs.ColSetLaws.{inter_in, rank_more, slice_get-rank, rising_range, in_range_below, range_with_len_more}
-use Rattle.rc_tuple.specs.Tuple.{Pairs, IsTuple, agrees, cols_of, get, merge, pair_cmp, project, tuple_cmp, value}
-use Rattle.rc_tuple.specs.TupleLaws.{zip_more, GivesOne, one_pair, agree_from, agrees_to, in_project, project_in, rising_cols, rising_pairs, pair_order, in_merge, merge_left, merge_right, rising_merge}
-use Rattle.rc_spec.specs.InRange.{IsSetBelow}
-use Rattle.rc_spec.specs.Stripes.{hash_of, mix}
 use Rattle.rc_bindings.specs.Registers.{all_written, columns_below, fits, fits_all, register, tuple_in, values_of}
 
 pub cols_of-tuple_in : (cols values : List ℕ) → cols_of (tuple_in cols values) ≡ cols

@@ -12,8 +12,7 @@ use denote.Memory.{cell_at, mem, part_of}
 use denote.RattleType.{RattleType}
 use denote.RawPtr.{Ptr, block_ptr, lies_at}
 use denote.Steps.{nothing, opens}
-use Rattle.rc_c.specs.Answered.{lies_again}
-use Rattle.rc_c.specs.HandedOut.{hands_out}
+use Rattle.rc_c.proofs.Imports.{lies_again, hands_out}
 
 module _ {M : Type 1} {𝓤 : Ura M} {𝓛 : Logic 𝓤} {K : Type 0} {Γ : List (Item 𝓤)} {G : Goal 𝓤 𝓛.H} where
   -- the loan is opened, and what would close it is let go

@@ -1,3 +1,4 @@
 pub mod Handing
 pub mod Shapes
 pub mod Takes
+mod Imports

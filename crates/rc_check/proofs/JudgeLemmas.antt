@@ -1,20 +1,6 @@
 -- The answer to the checks of a plan.
 use Rattle.std.proofs.Common.{◌≡◌, ℕ, ◌<◌, ◌↔◌, List, [], ◌∷◌, length, Bool, true, Option, None, Some, Result, Ok, Err, refl, sym, subst, arith}
-use Rattle.std.specs.List.{flat_map, range_with_len, slice_get}
-use Rattle.std.specs.Result.{IsOk, IfErr}
-use Rattle.std.proofs.lemmas.Bool.{false≢true}
-use Rattle.std.proofs.lemmas.Option.{slice_get_past}
-use Rattle.rc_tuple.specs.RisingSetLaws.{slice_get_in}
-use Rattle.rc_spec.specs.declared.items.Op.{Op}
-use Rattle.rc_spec.specs.declared.spec.Spec.{Spec}
-use Rattle.rc_spec.specs.First.{EachHolds, IsFirstFailing, Judges}
-use Rattle.rc_spec.specs.FirstLaws.{each_listed, first_listed, first_left, judged_append, judged_err, judged_one}
-use Rattle.rc_plan.specs.declared.refusal.PlanRefusal.{PlanRefusal}
-use Rattle.rc_plan.specs.declared.refusal.PlanRule.{PlanRule}
-use Rattle.rc_plan.specs.declared.refusal.PlanRule.TheVariants.{K1}
-use Rattle.rc_plan.specs.declared.statement.Statement.{Statement}
-use Rattle.rc_plan.specs.PlanRules.{AreKnown, IsComplete, IsFirstBrokenPlanRule, IsKeptInPlan, IsKnown, StatementKeeps, KeepsPlanRules, KeepsThere, check_at, checks_at, plan_checks, progress_at}
-use Rattle.rc_plan.specs.PlanRulesLaws.{refused_law, rules_from_checks}
+use Rattle.rc_check.proofs.Imports.{flat_map, range_with_len, slice_get, IsOk, IfErr, false≢true, slice_get_past, slice_get_in, Op, Spec, EachHolds, IsFirstFailing, Judges, each_listed, first_listed, first_left, judged_append, judged_err, judged_one, PlanRefusal, PlanRule, K1, Statement, AreKnown, IsComplete, IsFirstBrokenPlanRule, IsKeptInPlan, IsKnown, StatementKeeps, KeepsPlanRules, KeepsThere, check_at, checks_at, plan_checks, progress_at, refused_law, rules_from_checks}
 
 -- an answer to all checks says whether the plan keeps the rules
 pub ok_judged : {B : Type 0} (spec : Spec) (op : Op) (plan : List Statement) (answer : Result B PlanRefusal) → Judges (IsKeptInPlan spec op plan) (plan_checks plan) answer

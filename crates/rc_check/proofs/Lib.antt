@@ -1,2 +1,3 @@
 mod RuleLemmas
 mod JudgeLemmas
+mod Imports

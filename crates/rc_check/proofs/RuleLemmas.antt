@@ -1,33 +1,7 @@
 -- What the tests over the sets of a progress find, as facts of the progress.
-use Rattle.std.specs.Prelude.{IfSome}
+use Rattle.rc_check.proofs.Imports.{IfSome, nat_cmp, false≢true, leb-true, le-leb, In, gather, nat_order, in_has, has_in, in_map, map_in, gather-rising, Within, has, is_within, within_from_test, test_from_within, rising_range, Dep, Op, OpKind, Query, Insert, Remove, Update, Mode, Spec, GivesTuple, all_columns, value_columns, range_columns, at_found, class_at, ReadMode, Lookup, Statement, Lock, CheckDep, Which, dep_at, no_dep, Progress, Covers, FindsTuples, IsAtRisk, IsFindable, IsKeyBound, IsLocked, KeepsK2, KeepsK7, OutputsAreVisited, TellsOld, pattern_columns, ProgressSets, sets_of, keyed_classes, whole_classes, above, places_of_deps, in_gathered, in_keyed_classes, in_whole_classes, in_places_of_deps, below_above, above_below}
 use Rattle.std.proofs.Common.{◌≡◌, ℕ, ◌+◌, ◌-◌, ◌<◌, ◌≤◌, ◌↔◌, ◌⊎◌, Bool, true, false, not, leb, List, Option, Some, length, map, get_or, refl, sym, ap, subst, ◌∙◌, inl, inr, arith, zero, suc, below_more}
-use Rattle.std.specs.Ordering.{nat_cmp}
-use Rattle.std.proofs.lemmas.Bool.{false≢true, leb-true, le-leb}
-use Rattle.rc_tuple.specs.RisingSet.{In, gather}
-use Rattle.rc_tuple.specs.RisingSetLaws.{nat_order, in_has, has_in, in_map, map_in, gather-rising}
-use Rattle.rc_tuple.specs.ColSet.{Within, has, is_within}
-use Rattle.rc_tuple.specs.ColSetLaws.{within_from_test, test_from_within, rising_range}
-use Rattle.rc_tuple.specs.declared.dep.Dep.{Dep}
-use Rattle.rc_spec.specs.declared.items.Op.{Op}
-use Rattle.rc_spec.specs.declared.items.OpKind.{OpKind}
-use Rattle.rc_spec.specs.declared.items.OpKind.TheVariants.{Query, Insert, Remove, Update}
-use Rattle.rc_spec.specs.declared.lock.Mode.{Mode}
-use Rattle.rc_spec.specs.declared.spec.Spec.{Spec}
-use Rattle.rc_spec.specs.Calls.{GivesTuple, all_columns, value_columns}
-use Rattle.rc_spec.specs.Ranges.{range_columns}
-use Rattle.rc_spec.specs.DecompositionLaws.{at_found}
-use Rattle.rc_spec.specs.Placement.{class_at}
-use Rattle.rc_plan.specs.declared.statement.ReadMode.{ReadMode}
-use Rattle.rc_plan.specs.declared.statement.ReadMode.TheVariants.{Lookup}
-use Rattle.rc_plan.specs.declared.statement.Statement.{Statement}
-use Rattle.rc_plan.specs.declared.statement.Statement.TheVariants.{Lock, CheckDep}
-use Rattle.rc_plan.specs.declared.statement.Which.{Which}
 use Rattle.rc_plan.specs.declared.statement.Which.TheVariants as which
-use Rattle.rc_plan.specs.Evaluation.{dep_at, no_dep}
-use Rattle.rc_plan.specs.PlanRules.{Progress, Covers, FindsTuples, IsAtRisk, IsFindable, IsKeyBound, IsLocked, KeepsK2, KeepsK7, OutputsAreVisited, TellsOld, pattern_columns}
-use Rattle.rc_check.specs.declared.progress.ProgressSets.{ProgressSets}
-use Rattle.rc_check.specs.Sets.{sets_of, keyed_classes, whole_classes, above, places_of_deps}
-use Rattle.rc_check.specs.SetsLaws.{in_gathered, in_keyed_classes, in_whole_classes, in_places_of_deps, below_above, above_below}
 
 pub some_same : (x y : List ℕ) → Some x ≡ Some y → x ≡ y
 some_same x y e = cc

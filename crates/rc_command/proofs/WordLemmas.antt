@@ -1,24 +1,8 @@
 -- What clap makes of the words, and which command they are.
 use Rattle.std.proofs.Common.{ℕ, ◌≡◌, ◌∙◌, ◌⊎◌, ◌||◌, inl, inr, Bool, true, false, List, [], ◌∷◌, Option, Some, None, option_map, codes, find, refl, sym, ap, ap₂, subst, drop, unwrap_or}
-use Rattle.std.specs.List.{list_any}
-use Rattle.std.specs.Str.{bytes_eq}
-use Rattle.std.proofs.lemmas.Slice.Eq.{bytes_eq-Decides}
-use Rattle.clap.specs.Lexer.{long_of, short_of}
-use Rattle.clap.specs.Walk.{Held, Names, Step, Walk, after_step, answers_to, finished, idle, settled, nothing_held, subcommand_met, value, walk, walk_from, walked, word_met}
-use Rattle.clap.specs.Simple.{label_of, names_of}
-use Rattle.clap.specs.Kinds.{or_else}
-use Rattle.clap.specs.Faults.{check_fault, defaults_fault, entered_fault, level_fault, settle_fault, step_fault, stray_fault, turn_fault, walk_fault, word_fault}
-use Rattle.clap.specs.Words.{App, IsAmong, Kinds, Row, Rule, Shape, Text, built, fault_of, subcommand_name_of, subcommand_of, subcommand_rows_of}
-use Rattle.clap.specs.declared.error.kind.ErrorKind.{ErrorKind}
-use Rattle.clap.specs.declared.parser.matches.ArgMatches.{ArgMatches}
-use Rattle.clap.specs.Values.{reading_of}
+use Rattle.rc_command.proofs.Imports.{list_any, bytes_eq, bytes_eq-Decides, long_of, short_of, Held, Names, Step, Walk, after_step, answers_to, finished, idle, settled, nothing_held, subcommand_met, value, walk, walk_from, walked, word_met, label_of, names_of, or_else, check_fault, defaults_fault, entered_fault, level_fault, settle_fault, step_fault, stray_fault, turn_fault, walk_fault, word_fault, App, IsAmong, Kinds, Row, Rule, Shape, Text, built, fault_of, subcommand_name_of, subcommand_of, subcommand_rows_of, ErrorKind, ArgMatches, reading_of, CommandLine, walk_stopped, command_of, Command, grammar, is_flag, met, met_as}
 use Rattle.clap.specs.declared.builder.value_parser.ValueParser.TheVariants as vp
-use Rattle.clap.specs.declared.parser.matches.ValueSource.TheVariants.{CommandLine}
 use Rattle.clap.proofs.OnLiterals.{clap_on_literals}
-use Rattle.clap.proofs.WalkLemmas.{walk_stopped}
-use Rattle.rc_command.specs.Command.{command_of}
-use Rattle.rc_command.specs.declared.command.Command.{Command}
-use Rattle.rc_command.specs.Grammar.{grammar, is_flag, met, met_as}
 
 -- ---- a word that is neither a flag nor a name
 

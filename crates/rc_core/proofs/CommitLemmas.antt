@@ -1,17 +1,6 @@
 -- Locks that are held.
 use Rattle.std.proofs.Common.{◌≡◌, ◌==◌, ◌&&◌, ◌||◌, Bool, true, false, List, [], ◌∷◌, sym, refl, ap, ◌∙◌, subst, inl, inr}
-use Rattle.std.specs.List.{list_any}
-use Rattle.std.proofs.Common.{Result, Ok, Err}
-use Rattle.std.specs.Result.{IfOk}
-use Rattle.std.proofs.lemmas.Bool.{false≢true, and_parts, and_from, eqb-true, eq-eqb}
-use Rattle.rc_tuple.specs.RisingSet.{In}
-use Rattle.rc_tuple.specs.RisingSetLaws.{list_all_in, in_list_all}
-use Rattle.rc_spec.specs.declared.lock.Mode.{Mode}
-use Rattle.rc_spec.specs.declared.lock.Mode.TheVariants.{Shared, Exclusive}
-use Rattle.rc_spec.specs.Locks.{StripeLock, Suffices}
-use Rattle.rc_plan.specs.StripeLocks.{AreHeld}
-use Rattle.rc_core.specs.Commits.{suffices, is_held, are_held}
-use Rattle.rc_core.specs.ListLaws.{or_true}
+use Rattle.rc_core.proofs.Imports.{list_any, Result, Ok, Err, IfOk, false≢true, and_parts, and_from, eqb-true, eq-eqb, In, list_all_in, in_list_all, Mode, Shared, Exclusive, StripeLock, Suffices, AreHeld, suffices, is_held, are_held, or_true}
 
 -- ---- locks that are held
 

@@ -1,17 +1,6 @@
 -- Rows of edges: gathered one after another, and counts raised edge by edge.
 use Rattle.std.proofs.Common.{◌≡◌, ℕ, zero, suc, pred, ◌+◌, ◌<◌, Bool, true, false, List, [], ◌∷◌, ◌++◌, length, take, get_or, cond, sym, refl, subst, ap, ◌∙◌, inl, inr, arith}
-use Rattle.std.specs.List.{flat_map, range_with_len}
-use Rattle.std.proofs.lemmas.List.{append_assoc, take_more, flat_map_more}
-use Rattle.rc_tuple.specs.RisingSet.{In, put, gather}
-use Rattle.rc_tuple.specs.RisingSetLaws.{gather_more, gather-rising, rising_gather, same_gather, in_append, append_in_left, append_in_right, in_gather, gather_in}
-use Rattle.rc_tuple.specs.ColSetLaws.{range_with_len_more}
-use Rattle.rc_tuple.specs.Tuple.{Pairs}
-use Rattle.rc_spec.specs.declared.spec.Spec.{Spec}
-use Rattle.rc_spec.specs.CountedRows.{is_row_at, count_at, raised, lowered, row_in, all_raised, all_lowered}
-use Rattle.rc_spec.specs.CountedRowsLaws.{in_with_count}
-use Rattle.rc_spec.specs.Fragments.{EdgeRow, edge_row_cmp}
-use Rattle.rc_spec.specs.FragmentsLaws.{edge_row_order}
-use Rattle.rc_core.specs.declared.state.Hold.{Hold}
+use Rattle.rc_core.proofs.Imports.{flat_map, range_with_len, append_assoc, take_more, flat_map_more, In, put, gather, gather_more, gather-rising, rising_gather, same_gather, in_append, append_in_left, append_in_right, in_gather, gather_in, range_with_len_more, Pairs, Spec, is_row_at, count_at, raised, lowered, row_in, all_raised, all_lowered, in_with_count, EdgeRow, edge_row_cmp, edge_row_order, Hold}
 
 pub put_more : (xs more : List EdgeRow) (i : ℕ) (x : EdgeRow) → i < length more → x ≡ get_or more i x → put edge_row_cmp x (gather edge_row_cmp (xs ++ take i more)) ≡ gather edge_row_cmp (xs ++ take (i + 1) more)
 put_more xs more i x lt is =

@@ -1,33 +1,6 @@
 -- Steps evaluated one after another over what is held.
 use Rattle.std.proofs.Common.{◌≡◌, ℕ, suc, ◌<◌, ◌≤◌, ◌^◌, Bool, true, false, List, [], ◌∷◌, filter, length, cond, Option, Some, ap, ◌∙◌, subst, arith}
-use Rattle.rc_tuple.specs.RisingSet.{In}
-use Rattle.rc_tuple.specs.Tuple.{Pairs, project, tuple_eq}
-use Rattle.rc_spec.specs.declared.call.Reply.{Reply}
-use Rattle.rc_spec.specs.declared.spec.Spec.{Spec}
-use Rattle.rc_spec.specs.Calls.{Fits}
-use Rattle.rc_spec.specs.CallsLaws.{plain_keeps_relation}
-use Rattle.rc_spec.specs.Decomposition.{bound, edge_at}
-use Rattle.rc_spec.specs.Fragments.{EdgeRow, rows_on}
-use Rattle.rc_spec.specs.FragmentsLaws.{in_all_rows, in_fragments}
-use Rattle.rc_spec.specs.Plain.{plain}
-use Rattle.rc_spec.specs.PlainLaws.{plain_satisfies, plain_grows}
-use Rattle.rc_plan.specs.Compiled.{SpecWithPlans, plan_at, IsCompiled}
-use Rattle.rc_plan.specs.Evaluation.{eval}
-use Rattle.rc_plan.specs.Laws.{Serves}
-use Rattle.rc_plan.specs.CompiledLaws.{compiled_law}
-use Rattle.rc_spec.specs.Locks.{StripeLock}
-use Rattle.rc_plan.specs.StripeLocks.{stripes_of, AreHeld}
-use Rattle.rc_rel.specs.declared.entry.Step.{Step}
-use Rattle.rc_rel.specs.History.{replay}
-use Rattle.rc_rel.specs.HistoryLaws.{states_satisfy, states_are_relations, replay_in_states}
-use Rattle.rc_core.specs.declared.state.PassState.{PassState}
-use Rattle.rc_core.specs.declared.state.CoreState.{CoreState}
-use Rattle.rc_core.specs.State.{locks_of, rows_held}
-use Rattle.rc_core.specs.Good.{IsGood}
-use Rattle.rc_core.specs.Commits.{Evaluates, AreOf}
-use Rattle.rc_core.specs.CommitLaws.{rows_held_are}
-use Rattle.rc_core.specs.SizeLaws.{few_tuples}
-use Rattle.std.specs.List.{slice_get}
+use Rattle.rc_core.proofs.Imports.{In, Pairs, project, tuple_eq, Reply, Spec, Fits, plain_keeps_relation, bound, edge_at, EdgeRow, rows_on, in_all_rows, in_fragments, plain, plain_satisfies, plain_grows, SpecWithPlans, plan_at, IsCompiled, eval, Serves, compiled_law, StripeLock, stripes_of, AreHeld, Step, replay, states_satisfy, states_are_relations, replay_in_states, PassState, CoreState, locks_of, rows_held, IsGood, Evaluates, AreOf, rows_held_are, few_tuples, slice_get}
 
 -- ---- the first step, and the others
 
@@ -36,7 +9,6 @@ the_others [] = []
 the_others (x ∷ xs) = xs
 
 module _ (compiled : SpecWithPlans) (locks : List StripeLock) (x : Step) (steps : List Step) (rows : List EdgeRow) where
-
   pub others_evaluate : Evaluates compiled locks (x ∷ steps) rows → Evaluates compiled locks steps (eval compiled.spec (plan_at compiled.plans x.call.op) x.call rows).rows
   others_evaluate e = record { replies = ap the_others e.replies; held = e.held.1 }
 

@@ -4,3 +4,4 @@ pub mod StayLemmas
 pub mod CommitLemmas
 pub mod EvaluatesLemmas
 pub mod LockLemmas
+mod Imports

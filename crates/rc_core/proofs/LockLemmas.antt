@@ -1,29 +1,8 @@
 -- Which locks a commit needs.
 use Rattle.std.proofs.Common.{◌≡◌, ◌==◌, ◌<◌, Bool, IfOk, Result, get_or, true, sym, ap, subst, ◌∙◌, ◌↔◌}
 use Rattle.std.proofs.Common.{ℕ, ◌+◌, ◌≤◌, ◌&&◌, leb, ltb, List, [], ◌∷◌, length, arith}
-use Rattle.std.specs.List.{list_any, list_all}
-use Rattle.std.proofs.lemmas.Bool.{eq-eqb, eqb-true, false≢true}
-use Rattle.rc_tuple.specs.RisingSet.{In}
-use Rattle.rc_plan.specs.declared.statement.Statement.{Statement}
-use Rattle.rc_plan.specs.declared.statement.Statement.TheVariants.{Lock, Probe, Read, CheckAbsent, CheckFound, CheckDep, Apply, Emit, Commit, Release}
-use Rattle.rc_plan.specs.Compiled.{SpecWithPlans, plan_at}
-use Rattle.rc_rel.specs.declared.entry.Step.{Step}
-use Rattle.rc_core.specs.declared.state.PassState.{PassState}
-use Rattle.rc_tuple.specs.declared.memory.Memory.{Memory}
-use Rattle.rc_plan.specs.Evaluation.{eval}
-use Rattle.rc_core.specs.State.{locks_of, rows_held}
-use Rattle.rc_core.specs.Passes.{AreNamed, IsOfClassLocked, HoldsNoMore}
-use Rattle.rc_core.specs.Commits.{has_stripe, locks_class_of, is_of_class_locked}
+use Rattle.rc_core.proofs.Imports.{list_any, list_all, eq-eqb, eqb-true, false≢true, In, Statement, Lock, Probe, Read, CheckAbsent, CheckFound, CheckDep, Apply, Emit, Commit, Release, SpecWithPlans, plan_at, Step, PassState, Memory, eval, locks_of, rows_held, AreNamed, IsOfClassLocked, HoldsNoMore, has_stripe, locks_class_of, is_of_class_locked, has, has-range, in_has, has_in, list_all_in, in_list_all, Spec, class_at, band_start, StripeLock, band, stripes_of, band_of_class, in_stripes_of, stripes_of_in}
 use Rattle.rc_core.proofs.CommitLemmas.{any_in, in_any}
-use Rattle.rc_tuple.specs.ColSet.{has}
-use Rattle.rc_tuple.specs.ColSetLaws.{has-range}
-use Rattle.rc_tuple.specs.RisingSetLaws.{in_has, has_in, list_all_in, in_list_all}
-use Rattle.rc_spec.specs.declared.spec.Spec.{Spec}
-use Rattle.rc_spec.specs.Placement.{class_at}
-use Rattle.rc_spec.specs.Stripes.{band_start}
-use Rattle.rc_spec.specs.Locks.{StripeLock}
-use Rattle.rc_plan.specs.StripeLocks.{band, stripes_of}
-use Rattle.rc_plan.specs.StripeLocksLaws.{band_of_class, in_stripes_of, stripes_of_in}
 
 -- the stripe of each of the locks is among those named, exactly where all pass the test
 pub all_named : (named locks : List StripeLock) → (list_all (λ (lock : StripeLock). has_stripe named lock.0) locks ≡ true) ↔ AreNamed locks named

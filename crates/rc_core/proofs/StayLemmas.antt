@@ -1,18 +1,6 @@
 -- Until there is a reply the rows of a run stay.
 use Rattle.std.proofs.Common.{◌≡◌, Bool, true, false, List, [], ◌∷◌, ℕ, None, Option, Some, cond, sym, refl, ◌∙◌}
-use Rattle.std.specs.Option.{is_some}
-use Rattle.std.proofs.lemmas.Bool.{false≢true}
-use Rattle.rc_tuple.specs.Tuple.{Pairs}
-use Rattle.rc_spec.specs.declared.call.Reply.TheVariants.{Present, Conflict}
-use Rattle.rc_spec.specs.declared.call.Call.{Call}
-use Rattle.rc_spec.specs.declared.items.Op.{Op}
-use Rattle.rc_spec.specs.declared.items.OpKind.{OpKind}
-use Rattle.rc_spec.specs.declared.items.OpKind.TheVariants.{Query, Insert, Remove, Update}
-use Rattle.rc_spec.specs.declared.range.Range.{Range}
-use Rattle.rc_spec.specs.declared.spec.Spec.{Spec}
-use Rattle.rc_plan.specs.declared.statement.Statement.{Statement}
-use Rattle.rc_plan.specs.declared.statement.Statement.TheVariants.{Lock, Probe, Read, CheckAbsent, CheckFound, CheckDep, Apply, Emit, Commit, Release}
-use Rattle.rc_plan.specs.Evaluation.{RunState, apply, emit, keep_least, some_left, some_differs, remove_least, replace, run_one, run_next}
+use Rattle.rc_core.proofs.Imports.{is_some, false≢true, Pairs, Present, Conflict, Call, Op, OpKind, Query, Insert, Remove, Update, Range, Spec, Statement, Lock, Probe, Read, CheckAbsent, CheckFound, CheckDep, Apply, Emit, Commit, Release, RunState, apply, emit, keep_least, some_left, some_differs, remove_least, replace, run_one, run_next}
 
 reply_goes : (b : Bool) (s t : RunState) → t.rows ≡ s.rows → (cond b t s).rows ≡ s.rows
 reply_goes true s t e = e

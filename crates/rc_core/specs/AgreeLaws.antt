@@ -1,13 +1,7 @@
 -- What a pass has agrees with what the stripes and the history have.
 use Rattle.std.proofs.Common.{◌≡◌, ℕ, zero, suc, ◌<◌, true, false, List, [], ◌∷◌, map, length, Some, sym, refl, ap, ◌∙◌, arith}
-use Rattle.std.specs.List.{slice_get}
+use Rattle.rc_core.specs.Imports.{slice_get, In, has_in, in_has, has, Shared, Spec, Placed, placed_own}
 use Rattle.std.proofs.lemmas.Bool.{false≢true, eq-eqb, eqb-true}
-use Rattle.rc_tuple.specs.RisingSet.{In}
-use Rattle.rc_tuple.specs.RisingSetLaws.{has_in, in_has}
-use Rattle.rc_tuple.specs.ColSet.{has}
-use Rattle.rc_spec.specs.declared.lock.Mode.TheVariants.{Shared}
-use Rattle.rc_spec.specs.declared.spec.Spec.{Spec}
-use Rattle.rc_rel.specs.declared.entry.Placed.{Placed}
 use Rattle.rc_core.specs.declared.state.PassState.{PassState}
 use Rattle.rc_core.specs.declared.state.Keeper.{Keeper}
 use Rattle.rc_core.specs.declared.state.Keeper.TheVariants.{Home, Writer}
@@ -17,7 +11,6 @@ use Rattle.rc_core.specs.State.{has_writer, is_writer, stripe_at, shares_of}
 use Rattle.rc_core.specs.Good.{IsGoodPass, IsGoodKeeper, IsGood}
 use Rattle.rc_core.specs.Laws.{SharesAreHome, OwnAreOfHistory}
 use Rattle.rc_core.specs.KeepsLaws.{shares_count}
-use Rattle.rc_rel.specs.OwnLaws.{placed_own}
 use Rattle.rc_core.specs.ListLaws.{stripes_in_have}
 use Rattle.rc_core.specs.Passes.{IsHigh}
 use Rattle.rc_core.specs.KeepsLaws.{above_itself, shares_held, at_itself}

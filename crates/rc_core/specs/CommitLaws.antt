@@ -1,33 +1,9 @@
 -- An allowed commit leads from a good state to a good one: by the law of accepted plans, evaluation over what a pass holds replies as the plain relation does after the history, and leaves its rows.
 use Rattle.std.proofs.Common.{◌≡◌, ◌≢◌, ℕ, ◌<◌, ◌||◌, Bool, true, false, List, [], ◌∷◌, ◌++◌, map, length, Option, Some, None, if◌then◌else◌, sym, refl, ap, ◌∙◌, subst, inl, inr, arith, length-append}
-use Rattle.std.specs.List.{AllByRecursion, slice_get, flat_map}
+use Rattle.rc_core.specs.Imports.{AllByRecursion, slice_get, flat_map, In, gather, in_append, in_map, has_in, has, Pairs, Reply, Mode, Shared, Exclusive, Spec, Fits, EdgeRow, edge_row_cmp, on_stripes, rows_on, fragment_of, parts_law, pieces_law, plain, Statement, SpecWithPlans, IsCompiled, AllServe, compiled_in_turn_law, AllAreHeld, CallWithPlan, eval_replies, plain_replies, relation_after, rows_after, StripeLock, stripes_of, Step, Entry, steps_of, AreLegalFrom, IsLegal, after_steps, replay, own, own_placed, placed, StepsFit, after_steps-append, AreLegalFrom-append, steps_of-append, AllFit-more, states_satisfy, states_are_relations, replay_in_states, Placed, numbered_more, own_end_mine, own_end_other, placed_own}
 use Rattle.std.proofs.lemmas.Bool.{false≢true}
 use Rattle.std.proofs.lemmas.List.{append-nil, length-map}
-use Rattle.rc_tuple.specs.RisingSet.{In, gather}
-use Rattle.rc_tuple.specs.RisingSetLaws.{in_append, in_map, has_in}
-use Rattle.rc_tuple.specs.ColSet.{has}
-use Rattle.rc_tuple.specs.Tuple.{Pairs}
-use Rattle.rc_spec.specs.declared.call.Reply.{Reply}
-use Rattle.rc_spec.specs.declared.lock.Mode.{Mode}
-use Rattle.rc_spec.specs.declared.lock.Mode.TheVariants.{Shared, Exclusive}
-use Rattle.rc_spec.specs.declared.spec.Spec.{Spec}
-use Rattle.rc_spec.specs.Calls.{Fits}
-use Rattle.rc_spec.specs.Fragments.{EdgeRow, edge_row_cmp, on_stripes, rows_on, fragment_of}
-use Rattle.rc_spec.specs.FragmentsLaws.{parts_law, pieces_law}
-use Rattle.rc_spec.specs.Plain.{plain}
-use Rattle.rc_plan.specs.declared.statement.Statement.{Statement}
-use Rattle.rc_plan.specs.Compiled.{SpecWithPlans, IsCompiled}
-use Rattle.rc_plan.specs.Laws.{AllServe}
-use Rattle.rc_plan.specs.CompiledLaws.{compiled_in_turn_law}
-use Rattle.rc_plan.specs.Turns.{AllAreHeld, CallWithPlan, eval_replies, plain_replies, relation_after, rows_after}
-use Rattle.rc_spec.specs.Locks.{StripeLock}
-use Rattle.rc_plan.specs.StripeLocks.{stripes_of}
-use Rattle.rc_rel.specs.declared.entry.Step.{Step}
-use Rattle.rc_rel.specs.declared.entry.Entry.{Entry}
-use Rattle.rc_rel.specs.History.{steps_of, AreLegalFrom, IsLegal, after_steps, replay, own, own_placed, placed, StepsFit}
-use Rattle.rc_rel.specs.HistoryLaws.{after_steps-append, AreLegalFrom-append, steps_of-append, AllFit-more, states_satisfy, states_are_relations, replay_in_states}
 use Rattle.rc_core.specs.declared.state.Hold.{Hold}
-use Rattle.rc_rel.specs.declared.entry.Placed.{Placed}
 use Rattle.rc_core.specs.declared.state.StripeState.{StripeState}
 use Rattle.rc_core.specs.declared.state.PassState.{PassState}
 use Rattle.rc_core.specs.declared.state.Keeper.{Keeper}
@@ -39,7 +15,6 @@ use Rattle.rc_core.specs.Events.{with_pass}
 use Rattle.rc_core.specs.Good.{HaveRows, IsGoodPass, IsGoodKeeper, IsGoodStripe, IsGoodEntry, IsGoodHistory, IsGood}
 use Rattle.rc_core.specs.KeepsLaws.{change, at_below, no_writer, other_writer}
 use Rattle.rc_core.specs.ListLaws.{stripes_have, stripes_in_have}
-use Rattle.rc_rel.specs.OwnLaws.{numbered_more, own_end_mine, own_end_other, placed_own}
 
 -- ---- what is held, as fragments
 

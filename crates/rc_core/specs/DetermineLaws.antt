@@ -1,16 +1,8 @@
 -- The passes determine the state.
 use Rattle.std.proofs.Common.{◌≡◌, ℕ, ◌<◌, List, length, Some, sym, refl, ap, ◌∙◌, subst, arith}
-use Rattle.std.specs.List.{slice_get}
-use Rattle.std.specs.Ordering.{nat_cmp}
+use Rattle.rc_core.specs.Imports.{slice_get, nat_cmp, same_rising, slice_get_in, has_in, in_has, nat_order, has, Spec, fragment_of, Entry, own_placed, replay, same_places, stands_in_other}
 use Rattle.std.proofs.lemmas.List.{ext_get_or}
 use Rattle.std.proofs.lemmas.Bool.{false≢true, eq-eqb}
-use Rattle.rc_tuple.specs.RisingSetLaws.{same_rising, slice_get_in, has_in, in_has, nat_order}
-use Rattle.rc_tuple.specs.ColSet.{has}
-use Rattle.rc_spec.specs.declared.spec.Spec.{Spec}
-use Rattle.rc_spec.specs.Fragments.{fragment_of}
-use Rattle.rc_rel.specs.declared.entry.Entry.{Entry}
-use Rattle.rc_rel.specs.History.{own_placed, replay}
-use Rattle.rc_rel.specs.OwnLaws.{same_places, stands_in_other}
 use Rattle.rc_core.specs.declared.state.PassState.{PassState}
 use Rattle.rc_core.specs.declared.state.Keeper.{Keeper}
 use Rattle.rc_core.specs.declared.state.Keeper.TheVariants.{Home, Writer}

@@ -1,11 +1,6 @@
 -- The events: when each is allowed, and the state after it.
 use Rattle.std.specs.Prelude.{◌≡◌, ◌≢◌, ℕ, ◌<◌, ◌≤◌, ◌⊎◌, true, false, List, [], ◌∷◌, ◌++◌, ◌==◌, not, filter, map, length, set, replicate, Option, Some, None}
-use Rattle.std.specs.List.{range_with_len}
-use Rattle.std.specs.Ordering.{nat_cmp}
-use Rattle.rc_tuple.specs.RisingSet.{In, put}
-use Rattle.rc_spec.specs.Stripes.{stripe_total}
-use Rattle.rc_plan.specs.Compiled.{SpecWithPlans}
-use Rattle.rc_rel.specs.declared.entry.Entry.{Entry}
+use Rattle.rc_core.specs.Imports.{range_with_len, nat_cmp, In, put, stripe_total, SpecWithPlans, Entry}
 use Rattle.rc_core.specs.declared.state.PassState.{PassState}
 use Rattle.rc_core.specs.declared.state.Keeper.{Keeper}
 use Rattle.rc_core.specs.declared.state.Keeper.TheVariants.{Home, Writer}

@@ -1,16 +1,7 @@
 -- Good states.
 use Rattle.std.specs.Prelude.{◌≡◌, ℕ, ◌<◌, ◌≤◌, ◌^◌, false, List, length, Some}
-use Rattle.std.specs.List.{slice_get}
-use Rattle.std.specs.Ordering.{nat_cmp}
-use Rattle.rc_tuple.specs.RisingSet.{In, IsRising}
-use Rattle.rc_tuple.specs.ColSet.{has}
-use Rattle.rc_spec.specs.declared.spec.Spec.{Spec}
-use Rattle.rc_spec.specs.Fragments.{fragment_of}
-use Rattle.rc_spec.specs.Stripes.{stripe_total}
-use Rattle.rc_rel.specs.declared.entry.Entry.{Entry}
-use Rattle.rc_rel.specs.History.{IsLegal, replay, IsNumbered, AllFit, own_placed}
+use Rattle.rc_core.specs.Imports.{slice_get, nat_cmp, In, IsRising, has, Spec, fragment_of, stripe_total, Entry, IsLegal, replay, IsNumbered, AllFit, own_placed, Placed}
 use Rattle.rc_core.specs.declared.state.Hold.{Hold}
-use Rattle.rc_rel.specs.declared.entry.Placed.{Placed}
 use Rattle.rc_core.specs.declared.state.PassState.{PassState}
 use Rattle.rc_core.specs.declared.state.Keeper.{Keeper}
 use Rattle.rc_core.specs.declared.state.Keeper.TheVariants.{Home, Writer}

@@ -1,24 +1,14 @@
 -- Each allowed event but a commit leads from a good state to a good one.
 use Rattle.std.proofs.Common.{◌≡◌, ◌≢◌, ℕ, zero, suc, ◌<◌, ◌≤◌, ◌^◌, ◌||◌, ◌==◌, Bool, true, false, List, [], ◌∷◌, ◌++◌, not, length, set, Option, Some, None, if◌then◌else◌, sym, refl, ap, ◌∙◌, subst, inl, inr, arith, length-set}
-use Rattle.std.specs.List.{slice_get}
-use Rattle.std.specs.Ordering.{nat_cmp}
+use Rattle.rc_core.specs.Imports.{slice_get, nat_cmp, In, in_append, in_put, rising_put, rising_filter, has_in, nat_order, has, Spec, EdgeRow, fragment_of, Entry, replay, Placed, Shared, Exclusive}
 use Rattle.std.proofs.lemmas.Bool.{false≢true, eq-eqb, ne_eqb, eqb-true, or_left}
 use Rattle.std.proofs.Math.Nat.{max-le, le-max_left}
-use Rattle.rc_tuple.specs.RisingSet.{In}
-use Rattle.rc_tuple.specs.RisingSetLaws.{in_append, in_put, rising_put, rising_filter, has_in, nat_order}
-use Rattle.rc_tuple.specs.ColSet.{has}
-use Rattle.rc_spec.specs.declared.spec.Spec.{Spec}
-use Rattle.rc_spec.specs.Fragments.{EdgeRow, fragment_of}
-use Rattle.rc_rel.specs.declared.entry.Entry.{Entry}
-use Rattle.rc_rel.specs.History.{replay}
 use Rattle.rc_core.specs.declared.state.Hold.{Hold}
-use Rattle.rc_rel.specs.declared.entry.Placed.{Placed}
 use Rattle.rc_core.specs.declared.state.PassState.{PassState}
 use Rattle.rc_core.specs.declared.state.Keeper.{Keeper}
 use Rattle.rc_core.specs.declared.state.Keeper.TheVariants.{Home, Writer}
 use Rattle.rc_core.specs.declared.state.StripeState.{StripeState}
 use Rattle.rc_core.specs.declared.state.CoreState.{CoreState}
-use Rattle.rc_spec.specs.declared.lock.Mode.TheVariants.{Shared, Exclusive}
 use Rattle.rc_core.specs.State.{has_writer, is_writer, home_rows, no_stripe, stripe_at, hold, stripes_in, writes_of, shares_of, is_at, counts_at}
 use Rattle.rc_core.specs.Passes.{IsAbove, IsHigh, other_holds, rows_of_hold, locked, blocked, shared, turned, counted_in, back, released, learned}
 use Rattle.rc_core.specs.Events.{with_pass, with_keeper, with_counted, without_counted, IsUnlocked}
@@ -55,7 +45,6 @@ at_below (x ∷ xs) (suc i) a e = let r = at_below xs i a e in omega arith
 -- ---- one pass and one stripe change
 
 module _ (spec : Spec) (c : CoreState) (k p : ℕ) (u w : PassState) (t : StripeState) (good : IsGood spec c) (at : slice_get c.passes k ≡ Some u) (there : p < length c.stripes) where
-
   -- another pass doesn't see the change
   other_pass : (j : ℕ) (v : PassState) → is_writer t.keeper j ≡ is_writer (stripe_at c.stripes p).keeper j → has t.counted j ≡ has (stripe_at c.stripes p).counted j
       → (In p (shares_of v) → has_writer t.keeper ≡ false) → IsGoodPass spec c.history c.stripes j v → IsGoodPass spec c.history (set c.stripes p t) j v

@@ -1,16 +1,7 @@
 -- The laws of the core, each named by the contract of a function.
 use Rattle.std.specs.Prelude.{◌≡◌, ℕ, ◌<◌, ◌≤◌, ◌*◌, ◌^◌, List, map, length, Some}
-use Rattle.std.specs.List.{slice_get}
-use Rattle.rc_tuple.specs.RisingSet.{In}
-use Rattle.rc_tuple.specs.Tuple.{Pairs}
-use Rattle.rc_tuple.specs.Relation.{Satisfies}
-use Rattle.rc_spec.specs.declared.lock.Mode.TheVariants.{Shared}
-use Rattle.rc_spec.specs.declared.spec.Spec.{Spec}
-use Rattle.rc_spec.specs.Fragments.{EdgeRow, fragment_of}
-use Rattle.rc_plan.specs.Compiled.{SpecWithPlans, IsCompiled}
-use Rattle.rc_rel.specs.History.{IsLegal, replay, states, own}
+use Rattle.rc_core.specs.Imports.{slice_get, In, Pairs, Satisfies, Shared, Spec, EdgeRow, fragment_of, SpecWithPlans, IsCompiled, IsLegal, replay, states, own, Placed}
 use Rattle.rc_core.specs.declared.state.Hold.{Hold}
-use Rattle.rc_rel.specs.declared.entry.Placed.{Placed}
 use Rattle.rc_core.specs.declared.state.PassState.{PassState}
 use Rattle.rc_core.specs.declared.state.Keeper.TheVariants.{Home}
 use Rattle.rc_core.specs.declared.state.CoreState.{CoreState}

@@ -16,3 +16,4 @@ pub mod SizeLaws
 pub mod Commits
 pub mod Resumed
 pub mod ResumedLaws
+pub mod Imports

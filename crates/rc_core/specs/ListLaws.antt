@@ -1,21 +1,11 @@
 -- Laws of lists: what stands at a place after a change, and which numbers a list has.
 use Rattle.std.proofs.Common.{◌≡◌, ◌≢◌, ℕ, zero, suc, ◌<◌, ◌⊎◌, ◌||◌, ◌&&◌, ◌==◌, Bool, true, false, List, [], ◌∷◌, ◌++◌, filter, not, cond, if◌then◌else◌, length, set, get_or, Some, sym, refl, ap, ◌∙◌, subst, inl, inr, arith}
-use Rattle.std.specs.List.{slice_get}
-use Rattle.std.specs.declared.cmp.Ordering.{Ordering}
-use Rattle.std.specs.declared.cmp.Ordering.TheVariants.{Less, Equal, Greater}
-use Rattle.std.specs.Ordering.{match_ordering, nat_cmp}
+use Rattle.rc_core.specs.Imports.{slice_get, Ordering, Less, Equal, Greater, match_ordering, nat_cmp, In, IsRising, put, in_has, has_in, same_bool, in_filter, filter_in, in_map, map_in, in_append, append_in_left, append_in_right, in_put, put_new, put_old, nat_order, has, has-filter, Mode, Shared, Exclusive, EdgeRow}
 use Rattle.std.proofs.lemmas.Cmp.{ranked}
 use Rattle.std.proofs.lemmas.Bool.{false≢true, cases_eq, eq-eqb, ne_eqb, not_from_false, not-true, eqb-false}
 use Rattle.std.proofs.lemmas.List.{get_or-set_same, get_or-set_other}
-use Rattle.rc_tuple.specs.RisingSet.{In, IsRising, put}
-use Rattle.rc_tuple.specs.RisingSetLaws.{in_has, has_in, same_bool, in_filter, filter_in, in_map, map_in, in_append, append_in_left, append_in_right, in_put, put_new, put_old, nat_order}
-use Rattle.rc_tuple.specs.ColSet.{has}
-use Rattle.rc_tuple.specs.ColSetLaws.{has-filter}
 use Rattle.rc_core.specs.declared.state.Hold.{Hold}
 use Rattle.rc_core.specs.Passes.{other_holds, rows_of_hold}
-use Rattle.rc_spec.specs.declared.lock.Mode.{Mode}
-use Rattle.rc_spec.specs.declared.lock.Mode.TheVariants.{Shared, Exclusive}
-use Rattle.rc_spec.specs.Fragments.{EdgeRow}
 use Rattle.rc_core.specs.State.{hold, stripes_in, is_mode, held_in}
 
 module _ {A : Type 0} where

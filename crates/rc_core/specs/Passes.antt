@@ -1,21 +1,6 @@
 -- The events as changes of one pass.
 use Rattle.std.specs.Prelude.{◌≡◌, ℕ, suc, ◌<◌, ◌≤◌, ◌^◌, List, [], ◌∷◌, ◌++◌, ◌==◌, not, filter, map, length, max, Some, None, if◌then◌else◌}
-use Rattle.rc_tuple.specs.RisingSet.{In}
-use Rattle.rc_spec.specs.declared.spec.Spec.{Spec}
-use Rattle.rc_spec.specs.Fragments.{EdgeRow, on_stripes}
-use Rattle.rc_plan.specs.declared.statement.Statement.{Statement}
-use Rattle.rc_plan.specs.declared.statement.Which.{Which}
-use Rattle.rc_spec.specs.Locks.{StripeLock}
-use Rattle.rc_spec.specs.declared.lock.Mode.{Mode}
-use Rattle.rc_spec.specs.declared.lock.Mode.TheVariants.{Shared, Exclusive}
-use Rattle.rc_plan.specs.Compiled.{SpecWithPlans, plan_at}
-use Rattle.rc_plan.specs.Evaluation.{eval}
-use Rattle.rc_plan.specs.NamedStripes.{LocksClass}
-use Rattle.rc_plan.specs.StripeLocks.{IsOfClass, stripes_of}
-use Rattle.rc_plan.specs.Turns.{AllAreHeld, CallWithPlan, eval_replies, rows_after, with_plans}
-use Rattle.rc_rel.specs.declared.entry.Step.{Step}
-use Rattle.rc_rel.specs.declared.entry.Entry.{Entry}
-use Rattle.rc_rel.specs.History.{StepsFit, placed}
+use Rattle.rc_core.specs.Imports.{In, Spec, EdgeRow, on_stripes, Statement, Which, StripeLock, Mode, Shared, Exclusive, SpecWithPlans, plan_at, eval, LocksClass, IsOfClass, stripes_of, AllAreHeld, CallWithPlan, eval_replies, rows_after, with_plans, Step, Entry, StepsFit, placed}
 use Rattle.rc_core.specs.declared.state.Hold.{Hold}
 use Rattle.rc_core.specs.declared.state.PassState.{PassState}
 use Rattle.rc_core.specs.declared.state.Keeper.{Keeper}

@@ -1,13 +1,6 @@
 -- States that go on from a history.
 use Rattle.std.specs.Prelude.{◌≡◌, ℕ, ◌<◌, ◌≤◌, ◌^◌, List, [], map, length}
-use Rattle.std.specs.List.{range_with_len}
-use Rattle.rc_spec.specs.declared.spec.Spec.{Spec}
-use Rattle.rc_spec.specs.Fragments.{fragment_of}
-use Rattle.rc_spec.specs.Stripes.{stripe_total}
-use Rattle.rc_plan.specs.Compiled.{SpecWithPlans, IsCompiled}
-use Rattle.rc_rel.specs.declared.entry.Entry.{Entry}
-use Rattle.rc_rel.specs.Further.{Extends}
-use Rattle.rc_rel.specs.History.{IsPrefix, own_placed, replay}
+use Rattle.rc_core.specs.Imports.{range_with_len, Spec, fragment_of, stripe_total, SpecWithPlans, IsCompiled, Entry, Extends, IsPrefix, own_placed, replay}
 use Rattle.rc_core.specs.declared.event.Event.{Event}
 use Rattle.rc_core.specs.declared.state.CoreState.{CoreState}
 use Rattle.rc_core.specs.declared.state.Keeper.TheVariants.{Home}

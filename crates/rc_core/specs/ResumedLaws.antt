@@ -1,23 +1,10 @@
 -- A state that goes on from a history is good, and what follows it too.
 use Rattle.std.proofs.Common.{◌≡◌, ◌⊎◌, ℕ, zero, suc, ◌+◌, ◌<◌, ◌≤◌, ◌^◌, List, [], ◌∷◌, ◌++◌, map, length, Some, false, inl, inr, sym, refl, ap, ◌∙◌, subst, arith}
-use Rattle.std.specs.Prelude.{replicate}
-use Rattle.std.specs.List.{range_with_len, slice_get}
+use Rattle.rc_core.specs.Imports.{replicate, range_with_len, slice_get, has, In, Spec, empty_law, stripe_total, SpecWithPlans, Entry, Placed, histories_stay, own_placed, none_own, own_length, own_stands, prefix_again, prefix_same, IsPrefix}
 use Rattle.std.proofs.lemmas.Bool.{cases_lt}
 use Rattle.std.proofs.lemmas.List.{length-map}
 use Rattle.std.proofs.lemmas.List.FromFn.{length-range_with_len}
 use Rattle.std.proofs.lemmas.Option.{slice_get_within}
-use Rattle.rc_tuple.specs.ColSet.{has}
-use Rattle.rc_tuple.specs.RisingSet.{In}
-use Rattle.rc_spec.specs.declared.spec.Spec.{Spec}
-use Rattle.rc_spec.specs.FragmentsLaws.{empty_law}
-use Rattle.rc_spec.specs.Stripes.{stripe_total}
-use Rattle.rc_plan.specs.Compiled.{SpecWithPlans}
-use Rattle.rc_rel.specs.declared.entry.Entry.{Entry}
-use Rattle.rc_rel.specs.declared.entry.Placed.{Placed}
-use Rattle.rc_rel.specs.FurtherLaws.{histories_stay}
-use Rattle.rc_rel.specs.History.{own_placed}
-use Rattle.rc_rel.specs.OwnLaws.{none_own, own_length, own_stands}
-use Rattle.rc_rel.specs.PlaceLaws.{prefix_again, prefix_same}
 use Rattle.rc_core.specs.declared.event.Event.{Event}
 use Rattle.rc_core.specs.declared.event.Event.TheVariants as event
 use Rattle.rc_core.specs.declared.state.CoreState.{CoreState}
@@ -25,7 +12,6 @@ use Rattle.rc_core.specs.declared.state.Keeper.TheVariants.{Home}
 use Rattle.rc_core.specs.declared.state.PassState.{PassState}
 use Rattle.rc_core.specs.declared.state.StripeState.{StripeState}
 use Rattle.rc_core.specs.Events.{after, after_all, start}
-use Rattle.rc_rel.specs.History.{IsPrefix}
 use Rattle.rc_core.specs.Good.{IsGood, IsGoodHistory, IsGoodPass, IsGoodStripe}
 use Rattle.rc_core.specs.Resumed.{EventsAddToHistory, GoesOnWithMore, MayGoOn, ResumedAreGood, ResumedRunsAreSound, StartsAreResumed, free_stripe, rested, resumed}
 use Rattle.rc_core.specs.RunLaws.{good_is_sound, runs_keep}

@@ -1,11 +1,7 @@
 -- Runs of events stay good.
 use Rattle.std.proofs.Common.{◌≡◌, ℕ, ◌<◌, List, [], ◌∷◌, length, Option, Some, None, IfSome, subst, sym, ap, ◌∙◌}
-use Rattle.std.specs.List.{slice_get}
+use Rattle.rc_core.specs.Imports.{slice_get, Spec, SpecWithPlans, IsCompiled, own_placed, states_satisfy}
 use Rattle.std.proofs.lemmas.Option.{slice_get-get_or}
-use Rattle.rc_spec.specs.declared.spec.Spec.{Spec}
-use Rattle.rc_plan.specs.Compiled.{SpecWithPlans, IsCompiled}
-use Rattle.rc_rel.specs.History.{own_placed}
-use Rattle.rc_rel.specs.HistoryLaws.{states_satisfy}
 use Rattle.rc_core.specs.declared.state.CoreState.{CoreState}
 use Rattle.rc_core.specs.declared.state.PassState.{PassState}
 use Rattle.rc_core.specs.declared.event.Event.{Event}

@@ -1,15 +1,10 @@
 -- Histories are short, the relations after them small, and few passes are counted in.
 use Rattle.std.proofs.Common.{◌≡◌, ℕ, zero, suc, ◌+◌, ◌*◌, ◌<◌, ◌≤◌, ◌^◌, ◌==◌, Bool, true, false, List, [], ◌∷◌, length, cond, sym, refl, subst, inl, inr, arith, suc-mul, mul-le-mul_right, length-append}
-use Rattle.std.specs.declared.cmp.Ordering.TheVariants.{Less}
-use Rattle.std.specs.Ordering.{nat_cmp}
+use Rattle.rc_core.specs.Imports.{Less, nat_cmp, In, IsRising, Entry, own, steps_of, replay_few}
 use Rattle.std.proofs.lemmas.Cmp.{ranked}
 use Rattle.std.proofs.lemmas.Bool.{cases_eq, eq-eqb}
-use Rattle.rc_tuple.specs.RisingSet.{In, IsRising}
-use Rattle.rc_rel.specs.declared.entry.Entry.{Entry}
-use Rattle.rc_rel.specs.History.{own, steps_of}
 use Rattle.rc_core.specs.State.{stripe_at, pass_at}
 use Rattle.rc_core.specs.Laws.{FewAreCounted, HistoriesAreShort, ReplaysAreSmall}
-use Rattle.rc_rel.specs.OwnLaws.{replay_few}
 use Rattle.rc_core.specs.RunLaws.{pass_there}
 use Rattle.rc_core.specs.CommitLaws.{own_count}
 

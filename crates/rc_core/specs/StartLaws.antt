@@ -1,15 +1,10 @@
 -- The start is a good state.
 use Rattle.std.proofs.Common.{◌≡◌, ℕ, zero, suc, ◌+◌, ◌≤◌, [], map, length, Some, sym, refl, ap, ◌∙◌, subst, arith}
-use Rattle.std.specs.List.{slice_get, range_with_len}
-use Rattle.std.specs.Prelude.{replicate}
+use Rattle.rc_core.specs.Imports.{slice_get, range_with_len, replicate, empty_law, stripe_total, SpecWithPlans, has}
 use Rattle.std.proofs.lemmas.List.{length-map, length-replicate}
 use Rattle.std.proofs.lemmas.List.FromFn.{length-range_with_len}
-use Rattle.rc_spec.specs.FragmentsLaws.{empty_law}
-use Rattle.rc_spec.specs.Stripes.{stripe_total}
-use Rattle.rc_plan.specs.Compiled.{SpecWithPlans}
 use Rattle.rc_core.specs.declared.state.PassState.{PassState}
 use Rattle.rc_core.specs.declared.state.StripeState.{StripeState}
-use Rattle.rc_tuple.specs.ColSet.{has}
 use Rattle.rc_core.specs.State.{is_writer, no_stripe, stripe_at, fresh}
 use Rattle.rc_core.specs.Events.{start}
 use Rattle.rc_core.specs.Good.{IsGoodPass, IsGoodStripe, IsGood}

@@ -1,12 +1,6 @@
 -- What the core's state says of stripes and passes.
 use Rattle.std.specs.Prelude.{ℕ, Bool, true, false, List, [], ◌||◌, ◌==◌, Option, Some, None, map, filter, get_or}
-use Rattle.std.specs.List.{flat_map}
-use Rattle.rc_tuple.specs.RisingSet.{gather}
-use Rattle.rc_tuple.specs.ColSet.{has}
-use Rattle.rc_spec.specs.declared.lock.Mode.{Mode}
-use Rattle.rc_spec.specs.declared.lock.Mode.TheVariants.{Shared, Exclusive}
-use Rattle.rc_spec.specs.Fragments.{EdgeRow, edge_row_cmp}
-use Rattle.rc_spec.specs.Locks.{StripeLock}
+use Rattle.rc_core.specs.Imports.{flat_map, gather, has, Mode, Shared, Exclusive, EdgeRow, edge_row_cmp, StripeLock}
 use Rattle.rc_core.specs.declared.state.Hold.{Hold}
 use Rattle.rc_core.specs.declared.state.PassState.{PassState}
 use Rattle.rc_core.specs.declared.state.Keeper.{Keeper}

@@ -1,8 +1,6 @@
 -- No good state has a circle of waits.
 use Rattle.std.proofs.Common.{◌≡◌, ℕ, ◌<◌, List, [], ◌∷◌, Option, Some, None, sym, ap, ◌∙◌, subst, arith}
-use Rattle.std.specs.List.{slice_get}
-use Rattle.rc_tuple.specs.RisingSet.{In}
-use Rattle.rc_spec.specs.declared.spec.Spec.{Spec}
+use Rattle.rc_core.specs.Imports.{slice_get, In, Spec}
 use Rattle.rc_core.specs.declared.state.PassState.{PassState}
 use Rattle.rc_core.specs.declared.state.CoreState.{CoreState}
 use Rattle.rc_core.specs.State.{stripes_in, no_pass}

@@ -1,18 +1,6 @@
 -- Texts with one part more.
 use Rattle.std.proofs.Common.{◌≡◌, ℕ, zero, suc, ◌+◌, ◌≤◌, Bool, true, false, cond, List, [], ◌∷◌, ◌++◌, Some, filter, get_or, take, sym, ap, ◌∙◌, arith}
-use Rattle.std.specs.List.{slice_get, flat_map, range_with_len}
-use Rattle.std.proofs.lemmas.List.{take_more, append_assoc, append-nil}
-use Rattle.std.proofs.lemmas.Grind.{flat_map-append}
-use Rattle.std.proofs.lemmas.Option.{get_or_from_slice_get, slice_get_within}
-use Rattle.rc_tuple.specs.ColSetLaws.{range_with_len_more}
-use Rattle.std.proofs.lemmas.List.Elements.{filter-append}
-use Rattle.rc_spec.specs.declared.spec.Spec.{Spec}
-use Rattle.rc_spec.specs.RefusalText.{no_column}
-use Rattle.rc_plan.specs.declared.statement.Statement.{Statement}
-use Rattle.rc_plan.specs.Access.{is_read_of}
-use Rattle.rc_plan.specs.declared.statement.Statement.TheVariants.{Commit}
-use Rattle.rc_plan.specs.PlanText.{column_text}
-use Rattle.rc_dot.specs.Dot.{columns_text}
+use Rattle.rc_dot.proofs.Imports.{slice_get, flat_map, range_with_len, take_more, append_assoc, append-nil, flat_map-append, get_or_from_slice_get, slice_get_within, range_with_len_more, filter-append, Spec, no_column, Statement, is_read_of, Commit, column_text, columns_text}
 
 -- the text of one item more
 pub flat_more : {A : Type 0} (f : A → List ℕ) (xs : List A) (i : ℕ) (x : A) → slice_get xs i ≡ Some x → flat_map f (take i xs) ++ f x ≡ flat_map f (take (i + 1) xs)

@@ -1,1 +1,2 @@
 mod DotLemmas
+mod Imports

@@ -1,10 +1,7 @@
 -- What the contracts of an edge's containers cite: rows with their counts, by their keys.
 use Rattle.std.specs.Prelude.{◌≡◌, ℕ, ◌+◌, ◌-◌, ◌++◌, Bool, true, false, List, Option, None, Some, IsSome, length, nat_lt, if◌then◌else◌}
-use Rattle.std.specs.Coded.{Coded, coded_ℕ, coded_list, coded×}
-use Rattle.std.specs.List.{filter_map, flat_map}
-use Rattle.std.specs.Option.{option_and_then, option_map}
+use Rattle.rc_edges.specs.Imports.{Coded, coded_ℕ, coded_list, coded×, filter_map, flat_map, option_and_then, option_map, FinMap}
 use Rattle.std.specs.FinMap as fin
-use Rattle.std.specs.FinMap.{FinMap}
 use Rattle.rc_edges.specs.Values.{Values, values_cmp}
 
 -- a row's extra values, those that neither its source nor its key has, with its count: 0 in a tombstone, which stays of a row until it is swept

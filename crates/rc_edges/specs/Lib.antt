@@ -9,3 +9,4 @@ pub mod OneMapLaws
 pub mod RowsLaws
 pub mod Values
 pub mod ValuesLaws
+pub mod Imports

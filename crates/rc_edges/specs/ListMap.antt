@@ -1,9 +1,7 @@
 -- Places in a list of entries that rises by its keys.
 use Rattle.std.specs.Prelude.{◌≡◌, ℕ, zero, suc, Bool, not, List, [], ◌∷◌, T, ◌++◌, length}
-use Rattle.std.specs.List.{flat_map}
-use Rattle.std.specs.declared.cmp.Ordering.TheVariants.{Less}
+use Rattle.rc_edges.specs.Imports.{flat_map, Less, is_sorted}
 use Rattle.std.specs.FinMap as fin
-use Rattle.std.specs.FinMap.{is_sorted}
 use Rattle.rc_edges.specs.Values.{Values, values_cmp}
 use Rattle.rc_edges.specs.EdgeMap.{Counted, Rows, parts, present}
 use Rattle.rc_edges.specs.Entry.{is_tombstone}

@@ -1,15 +1,7 @@
 -- Laws of a list of entries that rises by its keys: its places, and what a change at a place is to its rows.
 use Rattle.std.specs.Prelude.{◌≡◌, ℕ, zero, suc, ◌+◌, ◌<◌, ◌≤◌, Bool, true, false, cond, nat_lt, not, T, ◌==◌, ◌&&◌, ◌||◌, ◌↔◌, List, Option, None, Some, is_some, [], ◌∷◌, ◌++◌, length, slice_set, slice_index_or, take, drop, insert, remove}
-use Rattle.std.specs.Bool.{IsTrue}
-use Rattle.std.specs.List.{cons_option, flat_map, list_any}
-use Rattle.std.specs.Option.{option_map, option_and_then}
-use Rattle.std.specs.declared.cmp.Ordering.{Ordering}
-use Rattle.std.specs.declared.cmp.Ordering.TheVariants.{Less, Equal, Greater}
-use Rattle.std.specs.Ordering.{is_lt, is_eq, ordering_reverse}
-use Rattle.std.specs.Cmp.{tied_itself}
+use Rattle.rc_edges.specs.Imports.{IsTrue, cons_option, flat_map, list_any, option_map, option_and_then, Ordering, Less, Equal, Greater, is_lt, is_eq, ordering_reverse, tied_itself, find, put, entries_sorted, get-entries, get-from_entries, len-entries, get-empty, below_all, where_key, is_sorted-put, find-put, is_sorted-where_key, find-where_key, same_entries, by_order}
 use Rattle.std.specs.FinMap as fin
-use Rattle.std.specs.FinMap.{find, put, entries_sorted, get-entries, get-from_entries, len-entries, get-empty}
-use Rattle.std.specs.FinMap.Entries.{below_all, where_key, is_sorted-put, find-put, is_sorted-where_key, find-where_key, same_entries, by_order}
 use Rattle.std.proofs.Common.{refl, sym, ap, subst, ◌∙◌, arith}
 use Rattle.std.proofs.lemmas.Bool.{false≢true, eqb-true, lt-ltb, ltb-true}
 use Rattle.std.proofs.lemmas.List.{drop_more, take_more, append_assoc}

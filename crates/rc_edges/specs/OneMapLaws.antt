@@ -1,7 +1,6 @@
 -- Laws of a singleton whose entry stands in place: i is its key and its entry, and m what its rows are.
 use Rattle.std.specs.Prelude.{◌≡◌, Bool, true, false, cond, nat_eq, Option, None, Some, IsSome, [], ◌∷◌, Result, Ok, Err, IfOk, OnOk}
-use Rattle.std.specs.Cmp.Lexicographic.{pointwise}
-use Rattle.std.specs.Option.{option_and_then}
+use Rattle.rc_edges.specs.Imports.{pointwise, option_and_then}
 use Rattle.std.specs.FinMap as fin
 use Rattle.std.proofs.Common.{refl, sym, ap, subst, ◌∙◌}
 use Rattle.std.proofs.lemmas.Bool.{false≢true}

@@ -1,14 +1,7 @@
 -- Laws of maps from tuples: a value written, and the part of each value.
 use Rattle.std.specs.Prelude.{◌≡◌, ◌<◌, ◌≤◌, Bool, true, false, cond, T, ◌&&◌, Option, None, Some, IsSome, List, [], ◌∷◌, nat_lt}
-use Rattle.std.specs.List.{cons_option}
-use Rattle.std.specs.Option.{option_map, option_and_then}
-use Rattle.std.specs.declared.cmp.Ordering.{Ordering}
-use Rattle.std.specs.declared.cmp.Ordering.TheVariants.{Less, Equal, Greater}
-use Rattle.std.specs.Ordering.{is_lt, is_eq}
-use Rattle.std.specs.Cmp.{IsTotalOrder}
+use Rattle.rc_edges.specs.Imports.{cons_option, option_map, option_and_then, Ordering, Less, Equal, Greater, is_lt, is_eq, IsTotalOrder, FinMap, find, is_sorted, entries_sorted, get-entries, same_map, get-insert, get-remove, get-from_entries, below_all, same_entries}
 use Rattle.std.specs.FinMap as fin
-use Rattle.std.specs.FinMap.{FinMap, find, is_sorted, entries_sorted, get-entries, same_map, get-insert, get-remove, get-from_entries}
-use Rattle.std.specs.FinMap.Entries.{below_all, same_entries}
 use Rattle.std.proofs.Common.{refl, sym, ap, subst, ◌∙◌, arith}
 use Rattle.std.proofs.lemmas.Bool.{false≢true, eqb-true, eq-eqb, ltb-true, ltb-false}
 use Rattle.rc_edges.specs.Values.{Values, values_cmp, values_eq}

@@ -1,8 +1,5 @@
 -- Lists of values, and their order.
-use Rattle.std.specs.Prelude.{ℕ, Bool, List}
-use Rattle.std.specs.declared.cmp.Ordering.{Ordering}
-use Rattle.std.specs.Ordering.{nat_cmp, is_eq}
-use Rattle.std.specs.Cmp.Lexicographic.{slice_cmp}
+use Rattle.rc_edges.specs.Imports.{ℕ, Bool, List, Ordering, nat_cmp, is_eq, slice_cmp}
 
 -- the values of some columns, in the columns' order
 abbrev pub Values : Type 0

@@ -1,12 +1,9 @@
 -- Laws of lists of values in their order.
 use Rattle.std.specs.Prelude.{◌≡◌, Bool, true, false, nat_eq}
-use Rattle.std.specs.Cmp.Lexicographic.{pointwise, pointwise_decides}
-use Rattle.std.specs.Ordering.{is_eq}
-use Rattle.std.specs.Cmp.{tied_itself}
+use Rattle.rc_edges.specs.Imports.{pointwise, pointwise_decides, is_eq, tied_itself, IsOrder, is_eq_equal, number_lists_order}
 use Rattle.std.proofs.Common.{refl, sym, ap, ◌∙◌}
 use Rattle.std.proofs.lemmas.Bool.{false≢true}
 use Rattle.std.proofs.lemmas.Bool.Decides.{same_from_decides, Decides-eqb}
-use Rattle.rc_tuple.specs.RisingSetLaws.{IsOrder, is_eq_equal, number_lists_order}
 use Rattle.rc_edges.specs.Values.{Values, values_cmp, values_eq}
 
 pub values_order : IsOrder values_cmp

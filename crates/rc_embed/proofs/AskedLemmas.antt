@@ -1,10 +1,6 @@
 -- The columns of operations.
 use Rattle.std.proofs.Common.{◌≡◌, ℕ, ◌<◌, ◌≤◌, List, [], length, Some, None, ap, ◌∙◌, arith}
-use Rattle.std.proofs.lemmas.List.FromFn.{length-map-range_with_len, get_or-map-range_with_len}
-use Rattle.std.proofs.lemmas.Option.{slice_get-get_or, slice_get_past}
-use Rattle.rc_spec.specs.declared.spec.Spec.{Spec}
-use Rattle.rc_work.specs.CallColumns.{written_columns_at}
-use Rattle.rc_embed.specs.Asked.{columns_of_all, known_columns}
+use Rattle.rc_embed.proofs.Imports.{length-map-range_with_len, get_or-map-range_with_len, slice_get-get_or, slice_get_past, Spec, written_columns_at, columns_of_all, known_columns}
 
 -- each operation's columns are found by its number
 pub columns_there : (spec : Spec) (op : ℕ) → op < length spec.ops → known_columns spec op ≡ Some (written_columns_at spec op)

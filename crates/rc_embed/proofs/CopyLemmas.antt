@@ -1,8 +1,6 @@
 -- A row is copied value by value.
 use Rattle.std.proofs.Common.{◌≡◌, ℕ, zero, suc, ◌+◌, ◌<◌, ◌≤◌, List, [], ◌∷◌, ◌++◌, length, take, drop, slice_index_or, slice_set, refl, sym, ap, ◌∙◌, arith}
-use Rattle.std.proofs.lemmas.List.{get_or-map, length-map}
-use Rattle.rc_tuple.specs.Tuple.{Pairs}
-use Rattle.rc_embed.specs.Replies.{values_of}
+use Rattle.rc_embed.proofs.Imports.{get_or-map, length-map, Pairs, values_of}
 
 over : (xs ys : List ℕ) (k : ℕ) → k < length xs → length xs ≤ length ys
     → slice_set (take k xs ++ drop k ys) k (slice_index_or xs k 0) ≡ take (suc k) xs ++ drop (suc k) ys

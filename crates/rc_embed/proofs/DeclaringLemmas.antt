@@ -1,38 +1,8 @@
 -- What is declared, where it has no fault of its own; and calls of an open group that have none.
 use Rattle.std.proofs.Common.{◌≡◌, ℕ, zero, suc, ◌+◌, ◌<◌, ◌≤◌, Bool, true, false, ◌||◌, List, [], ◌∷◌, ◌++◌, length, map, take, drop, Option, Some, None, All, if◌then◌else◌, ltb, eqb, ltb-true, eqb-true, get_or, set, refl, sym, ap, ◌∙◌, subst, arith}
-use Rattle.std.specs.List.{zip}
-use Rattle.std.specs.Option.{option_or}
-use Rattle.std.proofs.lemmas.List.{get_or-map, length-map, take-append-drop, take_more, take_more_set}
-use Rattle.std.proofs.lemmas.List.Elements.{All-cons, All-nil}
-use Rattle.rc_tuple.specs.RisingSet.{AreDistinct, In}
-use Rattle.rc_tuple.specs.RisingSetLaws.{append_in_left, distinct_left, get_or_in}
-use Rattle.rc_tuple.specs.Tuple.{pair_cmp}
-use Rattle.rc_tuple.specs.RisingSet.{gather}
-use Rattle.rc_spec.specs.declared.call.Call.{Call}
-use Rattle.rc_spec.specs.declared.spec.Spec.{Spec}
-use Rattle.rc_spec.specs.Calls.{Fits}
-use Rattle.rc_spec.specs.Placement.{no_op, op_at}
-use Rattle.rc_spec.specs.Ranges.{range_columns}
-use Rattle.rc_plan.specs.Compiled.{IsCompiled}
-use Rattle.rc_multi.specs.Group.{Covers}
-use Rattle.rc_multi.specs.GroupLocks.{HasOperation}
-use Rattle.rc_row.specs.Passes.{compiled_of, core_of, spec_of}
-use Rattle.rc_store.specs.OpenGroups.{OpenGroupSeen}
-use Rattle.rc_store.specs.Store.{StoreSeen}
-use Rattle.rc_work.specs.CallColumns.{HasKnownColumns, written_columns_at}
-use Rattle.rc_work.specs.DistinctLaws.{length-distinct-le}
-use Rattle.rc_embed.specs.declared.fault.CallFault.{CallFault}
-use Rattle.rc_embed.specs.declared.fault.CallFault.TheVariants.{Busy, Count, Memory, Prepared, Spent, UnknownOperation, Values}
-use Rattle.rc_embed.specs.declared.fault.OpenCallFault.{OpenCallFault}
+use Rattle.rc_embed.proofs.Imports.{zip, option_or, get_or-map, length-map, take-append-drop, take_more, take_more_set, All-cons, All-nil, AreDistinct, In, append_in_left, distinct_left, get_or_in, pair_cmp, gather, Call, Spec, Fits, no_op, op_at, range_columns, IsCompiled, Covers, HasOperation, compiled_of, core_of, spec_of, OpenGroupSeen, StoreSeen, HasKnownColumns, written_columns_at, length-distinct-le, CallFault, Busy, Count, Memory, Prepared, Spent, UnknownOperation, Values, OpenCallFault, State, AskedCall, declared_by, declared_call, declared_fault_at, declared_fault_in, declared_fault_of, declares_values, first_declared_fault, pattern_at, declared_calls_are_covered, HasDeclaredCause, HasOpenCause, IsLeftBy, IsUncoveredIn, open_fault_in, open_fault_of, is_group, spent_by, SessionSeen}
 use Rattle.rc_embed.specs.declared.fault.OpenCallFault.TheVariants as faults
-use Rattle.rc_embed.specs.declared.session.State.{State}
 use Rattle.rc_embed.specs.declared.session.State.TheVariants as states
-use Rattle.rc_embed.specs.Asked.{AskedCall}
-use Rattle.rc_embed.specs.Declaring.{declared_by, declared_call, declared_fault_at, declared_fault_in, declared_fault_of, declares_values, first_declared_fault, pattern_at}
-use Rattle.rc_embed.specs.DeclaringLaws.{declared_calls_are_covered}
-use Rattle.rc_embed.specs.OpenGroups.{HasDeclaredCause, HasOpenCause, IsLeftBy, IsUncoveredIn, open_fault_in, open_fault_of}
-use Rattle.rc_embed.specs.Refused.{is_group, spent_by}
-use Rattle.rc_embed.specs.Session.{SessionSeen}
 use Rattle.rc_embed.proofs.FaultLemmas.{IsOwn, IsOwnIf, none_both, own_group, own_or, own_spent}
 
 -- ---- the pattern of an operation

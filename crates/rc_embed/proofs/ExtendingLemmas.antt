@@ -1,26 +1,6 @@
 -- Further operations of a specification that is embedded.
 use Rattle.std.proofs.Common.{◌≡◌, ◌+◌, ◌≤◌, List, [], ◌∷◌, ◌++◌, length, sym, ap, ◌∙◌, subst, arith}
-use Rattle.std.specs.List.{AllByRecursion, range_with_len}
-use Rattle.std.specs.Ordering.{nat_cmp}
-use Rattle.std.proofs.lemmas.List.{length-append}
-use Rattle.rc_tuple.specs.RisingSet.{gather}
-use Rattle.rc_tuple.specs.Relation.{Follows}
-use Rattle.rc_tuple.specs.declared.dep.Dep.{Dep}
-use Rattle.rc_spec.specs.declared.items.Column.{Column}
-use Rattle.rc_spec.specs.declared.items.Op.{Op}
-use Rattle.rc_spec.specs.declared.spec.Spec.{Spec}
-use Rattle.rc_spec.specs.InRange.{IsInRange, IsOpAmong}
-use Rattle.rc_spec.specs.Names.{IsWellNamed}
-use Rattle.rc_inline.specs.ApartLaws.{embedded_apart, with_ops}
-use Rattle.rc_inline.specs.Inlining.{HasItsSchema}
-use Rattle.rc_inline.specs.Placing.{embedded}
-use Rattle.rc_inline.specs.PlacingLaws.{embedded_named, embedded_schema}
-use Rattle.rc_open.specs.ExtendedLaws.{known_over}
-use Rattle.rc_handplan.specs.declared.hand.Hand.{Hand}
-use Rattle.rc_handplan.specs.Hands.{AreHands}
-use Rattle.rc_work.specs.CallColumns.{HasKnownColumns}
-use Rattle.rc_work.specs.Shapes.{IsShapeOf, with_operations}
-use Rattle.rc_work.specs.ShapesLaws.{HasKnownColumns-over}
+use Rattle.rc_embed.proofs.Imports.{AllByRecursion, range_with_len, nat_cmp, length-append, gather, Follows, Dep, Column, Op, Spec, IsInRange, IsOpAmong, IsWellNamed, embedded_apart, with_ops, HasItsSchema, embedded, embedded_named, embedded_schema, known_over, Hand, AreHands, HasKnownColumns, IsShapeOf, with_operations, HasKnownColumns-over}
 
 -- an operation's columns and the rules that it keeps are those of the schema
 shape_same : (spec other : Spec) → HasItsSchema spec other → (op : Op) → IsShapeOf spec op → IsShapeOf other op

@@ -1,19 +1,6 @@
 -- Calls that have no fault of their own.
 use Rattle.std.proofs.Common.{◌≡◌, ℕ, zero, suc, ◌+◌, ◌<◌, Bool, true, false, List, [], ◌∷◌, ◌++◌, length, map, take, Option, Some, None, if◌then◌else◌, ltb, eqb, ltb-true, eqb-true, get_or, set, refl, sym, ap, ◌∙◌, subst, arith}
-use Rattle.std.specs.Option.{option_or}
-use Rattle.std.specs.List.{AllByRecursion}
-use Rattle.std.proofs.lemmas.List.{get_or-map, take_more, take_more_set}
-use Rattle.rc_spec.specs.declared.call.Call.{Call}
-use Rattle.rc_spec.specs.declared.spec.Spec.{Spec}
-use Rattle.rc_row.specs.Passes.{core_of, spec_of}
-use Rattle.rc_store.specs.Store.{StoreSeen}
-use Rattle.rc_work.specs.CallColumns.{call_of, written_columns_at}
-use Rattle.rc_embed.specs.declared.fault.CallFault.{CallFault}
-use Rattle.rc_embed.specs.declared.fault.CallFault.TheVariants.{Busy, Count, Memory, Prepared, Spent, UnknownOperation, Values}
-use Rattle.rc_embed.specs.Asked.{AskedCall, calls_by}
-use Rattle.rc_embed.specs.Refused.{HasCallCause, fault_at, fault_in, fault_of, first_fault, is_group, spent_by}
-use Rattle.rc_embed.specs.Session.{SessionSeen}
-use Rattle.rc_embed.specs.declared.session.State.{State}
+use Rattle.rc_embed.proofs.Imports.{option_or, AllByRecursion, get_or-map, take_more, take_more_set, Call, Spec, core_of, spec_of, StoreSeen, call_of, written_columns_at, CallFault, Busy, Count, Memory, Prepared, Spent, UnknownOperation, Values, AskedCall, calls_by, HasCallCause, fault_at, fault_in, fault_of, first_fault, is_group, spent_by, SessionSeen, State}
 use Rattle.rc_embed.specs.declared.session.State.TheVariants as states
 
 pub none_both : (a b : Option CallFault) → option_or a b ≡ None → (a ≡ None) × (b ≡ None)

@@ -1,12 +1,6 @@
 -- What frames are told.
 use Rattle.std.proofs.Common.{◌≡◌, ℕ, zero, suc, ◌+◌, ◌<◌, ◌≤◌, List, [], ◌∷◌, ◌++◌, length, map, take, drop, get_or, set, Some, None, refl, sym, ap, ◌∙◌, arith}
-use Rattle.std.specs.List.{slice_get}
-use Rattle.std.proofs.lemmas.List.{get_or_default}
-use Rattle.std.proofs.lemmas.List.Edits.{map_over_more}
-use Rattle.std.proofs.lemmas.Option.{same_Some}
-use Rattle.rc_spec.specs.declared.call.Reply.{Reply}
-use Rattle.rc_embed.specs.declared.frame.Frame.{Frame}
-use Rattle.rc_embed.specs.Frames.{with_replies, with_reply}
+use Rattle.rc_embed.proofs.Imports.{slice_get, get_or_default, map_over_more, same_Some, Reply, Frame, with_replies, with_reply}
 
 -- so many frames are told their replies
 abbrev pub told_so_far : List Reply → List Frame → ℕ → List Frame

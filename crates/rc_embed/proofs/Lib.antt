@@ -12,3 +12,4 @@ pub mod PlanningLemmas
 pub mod SendLemmas
 pub mod SessionLemmas
 pub mod WithinLemmas
+mod Imports

@@ -1,11 +1,7 @@
 -- Passes by their numbers.
 use Rattle.std.proofs.Common.{◌≡◌, ℕ, zero, suc, ◌+◌, ◌<◌, List, [], ◌∷◌, ◌++◌, length, map}
 use Rattle.std.proofs.Common.{take, drop, get_or, All, refl, sym, ap, ◌∙◌, arith}
-use Rattle.std.specs.List.{range_with_len}
-use Rattle.std.proofs.lemmas.List.{get_or-map, length-map, take_more}
-use Rattle.std.proofs.lemmas.List.FromFn.{get_or-range_with_len, length-range_with_len}
-use Rattle.rc_row.specs.Passes.{PassSeen}
-use Rattle.rc_embed.specs.Closing.{number_of}
+use Rattle.rc_embed.proofs.Imports.{range_with_len, get_or-map, length-map, take_more, get_or-range_with_len, length-range_with_len, PassSeen, number_of}
 
 next : (k : ℕ) → suc k ≡ k + 1
 next k = omega arith

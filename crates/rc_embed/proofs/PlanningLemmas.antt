@@ -1,32 +1,8 @@
 -- What opening a store with written plans answers.
 use Rattle.std.proofs.Common.{◌≡◌, ℕ, ◌<◌, List, [], ◌∷◌, length, take, Result, Ok, Err, IfOk, IfErr, inl, refl, sym, ap, ◌∙◌, subst, arith}
-use Rattle.rc_tuple.specs.RisingSet.{In}
-use Rattle.rc_tuple.specs.RisingSetLaws.{append_in_right}
-use Rattle.rc_spec.specs.declared.items.Op.{Op}
-use Rattle.rc_spec.specs.declared.spec.Spec.{Spec}
-use Rattle.rc_spec.specs.Acceptance.{IsAccepted}
-use Rattle.rc_spec.specs.Names.{IsWellNamed}
-use Rattle.rc_inline.specs.Placing.{embedded}
-use Rattle.rc_inline.specs.PlacingLaws.{embedded_schema}
-use Rattle.rc_plan.specs.Compiled.{IsCompiled, SpecWithPlans}
-use Rattle.rc_plan.specs.declared.refusal.PlanRefusal.{PlanRefusal}
-use Rattle.rc_handplan.specs.declared.hand.Hand.{Hand}
-use Rattle.rc_handplan.specs.Chosen.{AllKeepRules, AreChosen, IsFirstRefused}
-use Rattle.rc_handplan.specs.HandGrammar.{plans_of}
-use Rattle.rc_handplan.specs.Hands.{AreHands}
-use Rattle.rc_embed.specs.declared.fault.OpenFault.{OpenFault}
-use Rattle.rc_embed.specs.declared.fault.OpenFault.TheVariants.{Line, Memory, Options, Plan, PlanLine, Rule, ShapeLine, TooLong}
+use Rattle.rc_embed.proofs.Imports.{In, append_in_right, Op, Spec, IsAccepted, IsWellNamed, embedded, embedded_schema, IsCompiled, SpecWithPlans, PlanRefusal, Hand, AllKeepRules, AreChosen, IsFirstRefused, plans_of, AreHands, OpenFault, Line, Options, Plan, PlanLine, Rule, ShapeLine, TooLong, text_version, compiled_of, HasKnownColumns, with_operations, shapes_of, OpenFrame, BreaksRule, HasRefusal, IsOpenedBy, IsOpenedWithBy, IsRefusedBy, IsRefusedWithBy, options_asked, opened_plans, refused_without_plans, AreInBounds, ArePlannedOf, AreShort, IsAskedBy, IsBuiltOf, IsCompiledWith, IsMadeOf, IsOfTexts, IsOpened, IsOpenedWith, IsStoreOfTexts, IsPlannedWith, IsRefusedFor, IsRefusedPlan, IsRefusedWith, IsUnplannedFor, OpenSeen}
+use Rattle.rc_embed.specs.declared.fault.OpenFault.TheVariants.{Memory}
 use Rattle.rc_embed.specs.declared.opening.Options as asked
-use Rattle.rc_reader.specs.Grammar.{text_version}
-use Rattle.rc_row.specs.Passes.{compiled_of}
-use Rattle.rc_work.specs.CallColumns.{HasKnownColumns}
-use Rattle.rc_work.specs.Shapes.{with_operations}
-use Rattle.rc_work.specs.ShapesGrammar.{shapes_of}
-use Rattle.rc_embed.specs.declared.open_frame.OpenFrame.{OpenFrame}
-use Rattle.rc_embed.specs.OpenFrames.{BreaksRule, HasRefusal, IsOpenedBy, IsOpenedWithBy, IsRefusedBy, IsRefusedWithBy, options_asked}
-use Rattle.rc_embed.specs.OpenedLaws.{opened_plans, refused_without_plans}
-use Rattle.rc_embed.specs.Opened.{AreInBounds, ArePlannedOf, AreShort, IsAskedBy, IsBuiltOf, IsCompiledWith, IsMadeOf, IsOfTexts, IsOpened, IsOpenedWith, IsStoreOfTexts}
-use Rattle.rc_embed.specs.Opened.{IsPlannedWith, IsRefusedFor, IsRefusedPlan, IsRefusedWith, IsUnplannedFor, OpenSeen}
 
 -- its operation is one of the specification's
 pub first_is_known : (spec : Spec) (hands : List Hand) (op : ℕ) (refusal : PlanRefusal) → AreHands spec hands
@@ -61,9 +37,7 @@ planned_with declared spec own plans hands compiled is read same kept chosen = r
 -- ---- what opening a store answers
 
 module _ (text shapes plans : List ℕ) (options : asked.Options) (bounds : AreInBounds options) (short : AreShort text shapes plans) where
-
   module _ (spec : Spec) (from : IsAskedBy text options spec) (accepted : IsAccepted spec) (named : IsWellNamed spec) where
-
     module _ (further : List Op) (read : shapes_of (text_version text) spec shapes ≡ Ok further) where
       abbrev of_texts : IsOfTexts text shapes options (with_operations spec further)
       of_texts = record { declared = spec; further = further; from = from; accepted = accepted; named = named; read = read; is = refl }

@@ -1,17 +1,8 @@
 -- What resuming a closed store answers.
 use Rattle.std.proofs.Common.{◌≡◌, ℕ, List, Result, Ok, Err, IfOk, IfErr, inl, inr, sym, subst}
-use Rattle.rc_plan.specs.Compiled.{SpecWithPlans}
-use Rattle.rc_rel.specs.Further.{Extends}
-use Rattle.rc_store.specs.Closed.{ClosedSeen}
+use Rattle.rc_embed.proofs.Imports.{SpecWithPlans, Extends, ClosedSeen, ResumeFault, Refused, Sessions, Limit, Other, OpenFrame, options_asked, AreInBounds, IsCompiledWith, OpenSeen, BreaksRuleOf, IsUnresumedBy, TellsResumeFault, IsOneOf, IsOneResumed, IsResumedOf, IsResumedWith, IsUnresumedFor, Suffices}
 use Rattle.rc_embed.specs.declared.fault.OpenFault.TheVariants as faults
-use Rattle.rc_embed.specs.declared.fault.ResumeFault.{ResumeFault}
-use Rattle.rc_embed.specs.declared.fault.ResumeFault.TheVariants.{Refused, Sessions, Limit, Other}
-use Rattle.rc_embed.specs.declared.open_frame.OpenFrame.{OpenFrame}
 use Rattle.rc_embed.specs.declared.opening.Options as asked
-use Rattle.rc_embed.specs.OpenFrames.{options_asked}
-use Rattle.rc_embed.specs.Opened.{AreInBounds, IsCompiledWith, OpenSeen}
-use Rattle.rc_embed.specs.ResumedFrames.{BreaksRuleOf, IsUnresumedBy, TellsResumeFault}
-use Rattle.rc_embed.specs.Resuming.{IsOneOf, IsOneResumed, IsResumedOf, IsResumedWith, IsUnresumedFor, Suffices}
 use Rattle.rc_embed.proofs.PlanningLemmas.{memory_too, store_of_texts, tells_none}
 
 -- what comes of what is so
@@ -24,11 +15,8 @@ err_if P Q (Ok x) is more = tt
 err_if P Q (Err y) is more = more y is
 
 module _ (closed : ClosedSeen) (text shapes plans : List ℕ) (options : asked.Options) where
-
   module _ (bounds : AreInBounds options) (suffices : Suffices closed options) where
-
     module _ (compiled : SpecWithPlans) (with_plans : IsCompiledWith text shapes plans options compiled) where
-
       -- memory is wanted
       pub no_memory : (fault : ResumeFault) → fault ≡ Refused faults.Memory → IsUnresumedFor closed text shapes plans options fault
       no_memory fault is =
@@ -53,7 +41,6 @@ module _ (closed : ClosedSeen) (text shapes plans : List ℕ) (options : asked.O
 -- ---- frames
 
 module _ (closed : ClosedSeen) (text shapes plans : List ℕ) (options : asked.Options) where
-
   -- where memory is wanted for the refusal of a text, nothing else was wrong before
   pub memory_resumed : (fault : ResumeFault) → BreaksRuleOf fault → IsUnresumedFor closed text shapes plans options fault
       → IsUnresumedFor closed text shapes plans options (Refused faults.Memory)

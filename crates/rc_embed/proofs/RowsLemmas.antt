@@ -1,10 +1,6 @@
 -- Rows are copied one behind the other.
 use Rattle.std.proofs.Common.{◌≡◌, ℕ, ◌+◌, ◌-◌, ◌<◌, ◌≤◌, cond, List, [], ◌∷◌, ◌++◌, length, take, drop, get_or, sym, ap, ◌∙◌, arith}
-use Rattle.std.proofs.lemmas.Bool.{le-leb}
-use Rattle.std.proofs.lemmas.Grind.{flat_map-append}
-use Rattle.std.proofs.lemmas.List.{append-nil, append_assoc, drop-drop, drop_more, get_or-drop, length-append, length-drop, take_at, take_more}
-use Rattle.std.proofs.Math.Seq.{drop-append-add}
-use Rattle.rc_embed.specs.Replies.{count_fitting, joined}
+use Rattle.rc_embed.proofs.Imports.{le-leb, flat_map-append, append-nil, append_assoc, drop-drop, drop_more, get_or-drop, length-append, length-drop, take_at, take_more, drop-append-add, count_fitting, joined}
 
 -- the first row fits
 count_more : (room : ℕ) (row : List ℕ) (rows : List (List ℕ)) → length row ≤ room

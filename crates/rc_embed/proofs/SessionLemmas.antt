@@ -1,28 +1,10 @@
 -- A session that is the same is unchanged; and what is told of calls that were made.
 use Rattle.std.proofs.Common.{◌≡◌, ℕ, ◌≤◌, List, [], ◌∷◌, length, Option, Some, None, refl, sym, ap, ◌∙◌, subst, arith}
-use Rattle.std.specs.List.{slice_get}
+use Rattle.rc_embed.proofs.Imports.{slice_get, Reply, PartEntries, Step, with_replies-parts, with_step, Keeping, Counts, IsMoreRoom, PassSeen, compiled_of, GroupReceipt, Receipt, HasBegun, HasBegunGroup, RunningGroupSeen, RunningSeen, calls_of, AreRepliesFor, HasMade, HasMadeEntry, HasMadeGroup, HoldsExactly, IsAsBefore, IsReplyFor, StoreSeen, receipt_at, Group, Position, State, Idle, PreparedGroup, Open, Moving, AskedCall, told_last, HasCalledOpen, call_in, HasCommitted, IsStateAsBefore, IsStateOf, IsUnchanged, SessionSeen, alone, receipt_of, replies_given, replies_in, reply_of, uncommitted_in}
 use Rattle.rc_spec.specs.declared.call.Call.{Call as ACall}
-use Rattle.rc_spec.specs.declared.call.Reply.{Reply}
-use Rattle.rc_journal.specs.PartEntries.{PartEntries}
-use Rattle.rc_rel.specs.declared.entry.Step.{Step}
-use Rattle.rc_rel.specs.HistoryLaws.{with_replies-parts}
-use Rattle.rc_multi.specs.Group.{with_step}
-use Rattle.rc_row.specs.declared.keeping.Keeping.{Keeping}
-use Rattle.rc_row.specs.declared.keeping.Keeping.TheVariants.{Counts}
-use Rattle.rc_row.specs.Passes.{IsMoreRoom, PassSeen, compiled_of}
-use Rattle.rc_store.specs.declared.receipt.GroupReceipt.{GroupReceipt}
-use Rattle.rc_store.specs.declared.receipt.Receipt.{Receipt}
-use Rattle.rc_store.specs.Running.{HasBegun, HasBegunGroup, RunningGroupSeen, RunningSeen, calls_of, replies_of as replies_with}
-use Rattle.rc_store.specs.Store.{AreRepliesFor, HasMade, HasMadeEntry, HasMadeGroup, HoldsExactly, IsAsBefore, IsReplyFor, StoreSeen, receipt_at}
-use Rattle.rc_embed.specs.declared.session.Last.TheVariants.{Call, Group}
-use Rattle.rc_store.specs.declared.receipt.Position.{Position}
-use Rattle.rc_embed.specs.declared.session.State.{State}
-use Rattle.rc_embed.specs.declared.session.State.TheVariants.{Idle, Prepared, PreparedGroup, Open, Moving}
-use Rattle.rc_embed.specs.Asked.{AskedCall}
-use Rattle.rc_embed.specs.EntriesLaws.{told_last}
-use Rattle.rc_embed.specs.OpenGroups.{HasCalledOpen, call_in}
-use Rattle.rc_embed.specs.Session.{HasCommitted, IsStateAsBefore, IsStateOf, IsUnchanged, SessionSeen}
-use Rattle.rc_embed.specs.Session.{alone, receipt_of, replies_given, replies_in, reply_of, uncommitted_in}
+use Rattle.rc_store.specs.Running.{replies_of as replies_with}
+use Rattle.rc_embed.specs.declared.session.Last.TheVariants.{Call}
+use Rattle.rc_embed.specs.declared.session.State.TheVariants.{Prepared}
 
 same_room : (kept : Option PartEntries) → IsMoreRoom kept kept
 same_room None = tt

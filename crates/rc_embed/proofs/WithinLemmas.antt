@@ -1,8 +1,6 @@
 -- Numbers that aren't all within a limit.
 use Rattle.std.proofs.Common.{◌⊎◌, ℕ, ◌<◌, ◌≤◌, List, [], ◌∷◌, inl, inr, refl}
-use Rattle.std.specs.List.{AllByRecursion}
-use Rattle.std.proofs.lemmas.Bool.{cases_lt}
-use Rattle.rc_tuple.specs.RisingSet.{In}
+use Rattle.rc_embed.proofs.Imports.{AllByRecursion, cases_lt, In}
 
 abbrev Above : ℕ → List ℕ → Type 0
 Above limit numbers = (n : ℕ) × In n numbers × (limit < n)

@@ -1,9 +1,6 @@
 -- What a caller asks for: calls, each an operation by its number, with plain numbers as values.
 use Rattle.std.specs.Prelude.{◌≡◌, ℕ, ◌<◌, List, [], ◌∷◌, length, map, Option}
-use Rattle.std.specs.List.{range_with_len, slice_get}
-use Rattle.rc_spec.specs.declared.call.Call.{Call}
-use Rattle.rc_spec.specs.declared.spec.Spec.{Spec}
-use Rattle.rc_work.specs.CallColumns.{call_of, written_columns_at}
+use Rattle.rc_embed.specs.Imports.{range_with_len, slice_get, Call, Spec, call_of, written_columns_at}
 
 -- a call that is asked for, or what is declared of an operation: its number, how many values there are, and they
 pub record AskedCall : Type 0 where

@@ -1,9 +1,7 @@
 -- How an open store takes sessions back, and how it is closed. (PLDI 2012, serializable
 -- transactions: the calls of all sessions are one legal history.)
 use Rattle.std.specs.Prelude.{◌≡◌, ℕ, ◌<◌, ◌≤◌, List, ◌++◌, ◌∷◌, length, map, take, drop}
-use Rattle.std.specs.Prelude.{All, IfSome}
-use Rattle.std.specs.List.{range_with_len, slice_get}
-use Rattle.rc_row.specs.Passes.{PassSeen, core_of}
+use Rattle.rc_embed.specs.Imports.{All, IfSome, range_with_len, slice_get, PassSeen, core_of}
 use Rattle.rc_embed.specs.declared.closing.CloseBack.{CloseBack}
 use Rattle.rc_embed.specs.declared.closing.CloseBack.TheVariants.{Outside, Shared, Memory}
 use Rattle.rc_embed.specs.declared.session.State.TheVariants.{Idle}

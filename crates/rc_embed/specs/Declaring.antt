@@ -1,17 +1,7 @@
 -- What is declared of a group before its calls are known: operations, each with the values of its pattern or with any.
 -- (PLDI 2012, serializable transactions by two-phase locks.)
 use Rattle.std.specs.Prelude.{◌≡◌, ℕ, Bool, ◌==◌, ◌||◌, nat_lt, List, [], ◌∷◌, length, map, if◌then◌else◌}
-use Rattle.std.specs.Prelude.{Option, Some, None, option_map}
-use Rattle.std.specs.List.{slice_get}
-use Rattle.std.specs.Option.{option_or}
-use Rattle.rc_tuple.specs.RisingSet.{In}
-use Rattle.rc_tuple.specs.Tuple.{tuple_of}
-use Rattle.rc_spec.specs.declared.call.Call.{Call}
-use Rattle.rc_spec.specs.declared.items.Op.{Op}
-use Rattle.rc_spec.specs.declared.spec.Spec.{Spec}
-use Rattle.rc_spec.specs.Placement.{op_at}
-use Rattle.rc_row.specs.Passes.{PassSeen, spec_of}
-use Rattle.rc_store.specs.Store.{StoreSeen}
+use Rattle.rc_embed.specs.Imports.{Option, Some, None, option_map, slice_get, option_or, In, tuple_of, Call, Op, Spec, op_at, PassSeen, spec_of, StoreSeen}
 use Rattle.rc_embed.specs.declared.fault.CallFault.{CallFault}
 use Rattle.rc_embed.specs.declared.fault.CallFault.TheVariants.{Count, Prepared, UnknownOperation, Values}
 use Rattle.rc_embed.specs.declared.session.State.{State}

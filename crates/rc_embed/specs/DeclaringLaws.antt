@@ -1,39 +1,8 @@
 -- What is declared suffices for the calls that are declared. (PLDI 2012, well-locked query plans, lock striping.)
 use Rattle.std.proofs.Common.{◌≡◌, ℕ, ◌<◌, ◌==◌, ◌&&◌, ◌⊎◌, not, Bool, true, false, List, map, filter, length, if◌then◌else◌, refl, sym, ap, ◌∙◌, inl, inr, subst}
-use Rattle.std.specs.List.{list_any, range_with_len}
-use Rattle.std.specs.Ordering.{nat_cmp}
+use Rattle.rc_embed.specs.Imports.{list_any, range_with_len, nat_cmp, Within, in_range_below, within_from_test, Agree-value, list_any_in, In, filter_in, flat_map_in, gather_in, in_map, map_in, nat_order, IsTuple, cols_of, Agree, one_pair, Call, Mode, Exclusive, Shared, Fits, StripeLock, Suffices, class_at, physical_stripe, stripe_by_values, Lock, Which, IsCompiled, SpecWithPlans, plan_at, own_plan_accepted, IsNamedBy, band, band_of_class, CallWithPlan, with_plan, with_plans, class_locks, Covers, chooses, chosen_stripes, group_locks, group_mode, group_stripes, is_exclusive, locks_class, may_be_any, may_take_any, takes_any, writes_class, compiled_of, spec_of, declared_locks, StoreSeen}
 use Rattle.std.proofs.lemmas.Bool.{eq-eqb, false≢true}
-use Rattle.rc_tuple.specs.ColSet.{Within}
-use Rattle.rc_tuple.specs.ColSetLaws.{in_range_below, within_from_test}
-use Rattle.rc_tuple.specs.MergeLaws.{Agree-value}
-use Rattle.rc_tuple.specs.RelationLaws.{list_any_in}
-use Rattle.rc_tuple.specs.RisingSet.{In}
-use Rattle.rc_tuple.specs.RisingSetLaws.{filter_in, flat_map_in, gather_in, in_map, map_in, nat_order}
-use Rattle.rc_tuple.specs.Tuple.{IsTuple, cols_of}
-use Rattle.rc_tuple.specs.TupleLaws.{Agree, one_pair}
-use Rattle.rc_spec.specs.declared.call.Call.{Call}
-use Rattle.rc_spec.specs.declared.lock.Mode.{Mode}
-use Rattle.rc_spec.specs.declared.lock.Mode.TheVariants.{Exclusive, Shared}
-use Rattle.rc_spec.specs.Calls.{Fits}
-use Rattle.rc_spec.specs.Locks.{StripeLock, Suffices}
-use Rattle.rc_spec.specs.Placement.{class_at}
-use Rattle.rc_spec.specs.Stripes.{physical_stripe}
-use Rattle.rc_spec.specs.StripesLaws.{stripe_by_values}
-use Rattle.rc_plan.specs.declared.statement.Statement.TheVariants.{Lock}
-use Rattle.rc_plan.specs.declared.statement.Which.{Which}
 use Rattle.rc_plan.specs.declared.statement.Which.TheVariants as which
-use Rattle.rc_plan.specs.Compiled.{IsCompiled, SpecWithPlans, plan_at}
-use Rattle.rc_plan.specs.CompiledLaws.{own_plan_accepted}
-use Rattle.rc_plan.specs.NamedStripes.{IsNamedBy}
-use Rattle.rc_plan.specs.StripeLocks.{band}
-use Rattle.rc_plan.specs.StripeLocksLaws.{band_of_class}
-use Rattle.rc_plan.specs.Turns.{CallWithPlan, with_plan, with_plans}
-use Rattle.rc_multi.specs.ClassUse.{class_locks}
-use Rattle.rc_multi.specs.Group.{Covers}
-use Rattle.rc_multi.specs.GroupLocks.{chooses, chosen_stripes, group_locks, group_mode, group_stripes, is_exclusive, locks_class, may_be_any, may_take_any, takes_any, writes_class}
-use Rattle.rc_row.specs.Passes.{compiled_of, spec_of}
-use Rattle.rc_store.specs.OpenGroups.{declared_locks}
-use Rattle.rc_store.specs.Store.{StoreSeen}
 use Rattle.rc_embed.specs.Asked.{AskedCall}
 use Rattle.rc_embed.specs.Declaring.{IsDeclared, declared_by, declared_call}
 

@@ -1,12 +1,6 @@
 -- The entries that sessions have made, and where these stand. (PLDI 2012, serializable transactions.)
 use Rattle.std.specs.Prelude.{◌≡◌, ℕ, List, [], length, Option, Some, None}
-use Rattle.rc_tuple.specs.RisingSet.{In}
-use Rattle.rc_spec.specs.declared.call.Call.{Call}
-use Rattle.rc_spec.specs.declared.call.Reply.{Reply}
-use Rattle.rc_rel.specs.declared.entry.Entry.{Entry}
-use Rattle.rc_rel.specs.declared.entry.Placed.{Placed}
-use Rattle.rc_rel.specs.History.{placed, with_replies}
-use Rattle.rc_row.specs.Passes.{PassSeen, core_of}
+use Rattle.rc_embed.specs.Imports.{In, Call, Reply, Entry, Placed, placed, with_replies, PassSeen, core_of}
 use Rattle.rc_embed.specs.declared.session.State.{State}
 use Rattle.rc_embed.specs.declared.session.State.TheVariants.{Idle, Prepared, PreparedGroup, Open, Moving}
 use Rattle.rc_embed.specs.Session.{SessionSeen}

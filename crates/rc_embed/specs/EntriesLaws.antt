@@ -1,23 +1,8 @@
 -- The calls that a session was told of stand among its entries, and these stay.
 use Rattle.std.proofs.Common.{◌≡◌, ◌⊎◌, ℕ, zero, suc, List, [], ◌∷◌, ◌++◌, length, take, drop, Option, Some, None, refl, sym, ap, ◌∙◌, inl, inr, subst}
 use Rattle.std.proofs.lemmas.List.{length-map}
-use Rattle.rc_tuple.specs.RisingSet.{In}
-use Rattle.rc_tuple.specs.RisingSetLaws.{append_in_left, append_in_right}
-use Rattle.rc_spec.specs.declared.call.Call.{Call}
-use Rattle.rc_spec.specs.declared.call.Reply.{Reply}
-use Rattle.rc_rel.specs.declared.entry.Entry.{Entry}
-use Rattle.rc_rel.specs.declared.entry.Placed.{Placed}
-use Rattle.rc_rel.specs.declared.entry.Step.{Step}
-use Rattle.rc_rel.specs.History.{placed, with_replies}
-use Rattle.rc_rel.specs.HistoryLaws.{with_replies-parts}
-use Rattle.rc_core.specs.declared.state.PassState.{PassState}
-use Rattle.rc_core.specs.Passes.{next_of}
-use Rattle.rc_row.specs.Passes.{PassSeen, core_of}
-use Rattle.rc_store.specs.ReceiptLaws.{telling_goes_on}
-use Rattle.rc_store.specs.Receipts.{KnowsAll}
-use Rattle.rc_store.specs.Running.{RunningGroupSeen, calls_of, replies_of as replies_with}
-use Rattle.rc_store.specs.Store.{HasMadeEntry, IsAsBefore, StoreSeen}
-use Rattle.rc_store.specs.declared.receipt.Position.{Position}
+use Rattle.rc_embed.specs.Imports.{In, append_in_left, append_in_right, Call, Reply, Entry, Placed, Step, placed, with_replies, with_replies-parts, PassState, next_of, PassSeen, core_of, telling_goes_on, KnowsAll, RunningGroupSeen, calls_of, HasMadeEntry, IsAsBefore, StoreSeen, Position}
+use Rattle.rc_store.specs.Running.{replies_of as replies_with}
 use Rattle.rc_embed.specs.declared.session.State.{State}
 use Rattle.rc_embed.specs.declared.session.State.TheVariants.{Idle, Prepared, PreparedGroup, Open, Moving}
 use Rattle.rc_embed.specs.Asked.{AskedCall}

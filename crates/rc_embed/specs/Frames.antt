@@ -1,17 +1,11 @@
 -- Frames, by which callers in other languages ask and are told.
 use Rattle.std.specs.Prelude.{◌≡◌, ◌⊎◌, ℕ, ◌<◌, ◌≤◌, ◌==◌, List, [], ◌∷◌, ◌++◌, length, map, drop, if◌then◌else◌}
-use Rattle.std.specs.Prelude.{Option, Some, None, IfSome}
-use Rattle.std.specs.List.{slice_get}
-use Rattle.rc_spec.specs.declared.call.Reply.{Reply}
-use Rattle.rc_spec.specs.declared.call.Reply.TheVariants.{Rows, Many, Inserted, Present}
-use Rattle.rc_spec.specs.declared.call.Reply.TheVariants.{Conflict, Removed, Updated, Absent}
-use Rattle.rc_spec.specs.declared.lock.Found.{Found}
+use Rattle.rc_embed.specs.Imports.{Option, Some, None, IfSome, slice_get, Reply, Rows, Many, Inserted, Present, Conflict, Removed, Updated, Absent, Found, Position}
 use Rattle.rc_spec.specs.declared.lock.Found.TheVariants as finds
 use Rattle.rc_embed.specs.declared.fault.CallFault.{CallFault}
 use Rattle.rc_embed.specs.declared.fault.CallFault.TheVariants as faults
 use Rattle.rc_embed.specs.declared.frame.Frame.{Frame}
 use Rattle.rc_embed.specs.declared.frame.Page.{Page}
-use Rattle.rc_store.specs.declared.receipt.Position.{Position}
 use Rattle.rc_embed.specs.Codes as codes
 use Rattle.rc_embed.specs.Asking.{asked_by}
 use Rattle.rc_embed.specs.Refused.{HasCallCause, fault_of}

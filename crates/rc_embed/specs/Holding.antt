@@ -1,10 +1,5 @@
 -- How an open store has what it shares with its sessions.
-use Rattle.std.specs.Prelude.{[]}
-use Rattle.std.specs.Arc.{arc_value}
-use Rattle.rc_maps.specs.Seed.{seed_of}
-use Rattle.rc_spec.specs.Spec.{empty}
-use Rattle.rc_row.specs.declared.keeping.Keeping.TheVariants.{Counts}
-use Rattle.rc_store.specs.Store.{StoreSeen}
+use Rattle.rc_embed.specs.Imports.{[], arc_value, seed_of, empty, Counts, StoreSeen}
 use Rattle.rc_embed.specs.declared.hold.Hold.{Hold}
 use Rattle.rc_embed.specs.declared.hold.Hold.TheVariants.{Alone, Together, Moving}
 

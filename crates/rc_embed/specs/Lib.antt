@@ -34,3 +34,4 @@ pub mod Shaped
 pub mod SharedInside
 pub mod TextPages
 pub mod ToldLaws
+pub mod Imports

@@ -1,20 +1,6 @@
 -- What a store that was opened by a text leaves, in terms of the specification that the text gives.
 use Rattle.std.specs.Prelude.{◌≡◌, ℕ, suc, List, Some, length}
-use Rattle.std.specs.List.{slice_get}
-use Rattle.rc_spec.specs.declared.call.Call.{Call}
-use Rattle.rc_spec.specs.declared.call.Reply.{Reply}
-use Rattle.rc_spec.specs.declared.spec.Spec.{Spec}
-use Rattle.rc_inline.specs.Placing.{embedded}
-use Rattle.rc_rel.specs.declared.entry.Entry.{Entry}
-use Rattle.rc_rel.specs.declared.entry.Step.{Step}
-use Rattle.rc_rel.specs.History.{AreLegalFrom, after_steps, own_placed, relation_at, replay, with_replies}
-use Rattle.rc_core.specs.Good.{IsGoodHistory}
-use Rattle.rc_instance.specs.Instance.{IsOfRelation}
-use Rattle.rc_row.specs.Law.{AreKnown}
-use Rattle.rc_row.specs.Passes.{PassSeen, core_of}
-use Rattle.rc_store.specs.Closed.{ClosedSeen, made_by, where_kept}
-use Rattle.rc_store.specs.Receipts.{history_with}
-use Rattle.rc_store.specs.Store.{StoreSeen}
+use Rattle.rc_embed.specs.Imports.{slice_get, Call, Reply, Spec, embedded, Entry, Step, AreLegalFrom, after_steps, own_placed, relation_at, replay, with_replies, IsGoodHistory, IsOfRelation, AreKnown, PassSeen, core_of, ClosedSeen, made_by, where_kept, history_with, StoreSeen}
 
 -- The history is good for the specification, and what was closed has the rows of the relation that it leaves, as the
 -- specification with its singletons inlined and its edges placed together keeps them. Each pass's entries are its own of

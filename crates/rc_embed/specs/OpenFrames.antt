@@ -1,21 +1,8 @@
 -- Frames by which stores are opened and operations looked up.
 use Rattle.std.specs.Prelude.{◌≡◌, ℕ, ◌<◌, ◌≤◌, ◌==◌, List, [], ◌++◌, get_or, length, take, Option, Some, None, if◌then◌else◌}
 use Rattle.std.specs.Prelude as text
-use Rattle.rc_maps.specs.declared.seed.Seed.{Seed}
-use Rattle.rc_maps.specs.Seed.{seed_of}
-use Rattle.rc_spec.specs.declared.items.OpKind.{OpKind}
+use Rattle.rc_embed.specs.Imports.{Seed, seed_of, OpKind, Spec, IsItemOf, op_names, op_at, refusal_text, LineRule, number_among, line_rule_text, HandRule, hand_rule_text, plan_refusal_text, written_columns_at}
 use Rattle.rc_spec.specs.declared.items.OpKind.TheVariants as kinds
-use Rattle.rc_spec.specs.declared.spec.Spec.{Spec}
-use Rattle.rc_spec.specs.Acceptance.{IsItemOf}
-use Rattle.rc_spec.specs.Names.{op_names}
-use Rattle.rc_spec.specs.Placement.{op_at}
-use Rattle.rc_spec.specs.RefusalText.{refusal_text}
-use Rattle.rc_reader.specs.declared.refusal.LineRule.{LineRule}
-use Rattle.rc_reader.specs.Names.{number_among}
-use Rattle.rc_reader.specs.RuleText.{line_rule_text}
-use Rattle.rc_handplan.specs.declared.refusal.HandRule.{HandRule}
-use Rattle.rc_handplan.specs.RuleText.{hand_rule_text, plan_refusal_text}
-use Rattle.rc_work.specs.CallColumns.{written_columns_at}
 use Rattle.rc_embed.specs.declared.fault.OpenFault.{OpenFault}
 use Rattle.rc_embed.specs.declared.fault.OpenFault.TheVariants.{Memory, Options, TooLong, Line}
 use Rattle.rc_embed.specs.declared.fault.OpenFault.TheVariants.{Plan, PlanLine, Rule, ShapeLine}

@@ -2,21 +2,9 @@
 -- replies are the plain relation's. (PLDI 2012, serializable transactions.)
 use Rattle.std.proofs.Common.{◌≡◌, ℕ, List, [], ◌∷◌, ◌++◌, refl, sym, ap, ◌∙◌, subst, append_assoc}
 use Rattle.std.proofs.lemmas.List.{append-nil, map-append}
-use Rattle.rc_tuple.specs.RisingSet.{In}
-use Rattle.rc_spec.specs.declared.call.Call.{Call}
-use Rattle.rc_spec.specs.Locks.{StripeLock}
-use Rattle.rc_rel.specs.declared.entry.Entry.{Entry}
-use Rattle.rc_rel.specs.declared.entry.Placed.{Placed}
-use Rattle.rc_rel.specs.declared.entry.Step.{Step}
-use Rattle.rc_row.specs.Passes.{PassSeen, core_of, spec_of}
-use Rattle.rc_store.specs.Closed.{ClosedSeen}
-use Rattle.rc_store.specs.OpenGroups.{OpenGroupSeen, declared_locks}
-use Rattle.rc_store.specs.Running.{calls_of}
-use Rattle.rc_store.specs.Store.{StoreSeen}
-use Rattle.rc_work.specs.CallColumns.{call_of}
+use Rattle.rc_embed.specs.Imports.{In, Call, StripeLock, Entry, Placed, Step, PassSeen, core_of, spec_of, ClosedSeen, OpenGroupSeen, declared_locks, calls_of, StoreSeen, call_of, Position}
 use Rattle.rc_embed.specs.declared.fault.OpenCallFault.TheVariants as faults
 use Rattle.rc_embed.specs.declared.opening.Options as opening
-use Rattle.rc_store.specs.declared.receipt.Position.{Position}
 use Rattle.rc_embed.specs.declared.session.State.{State}
 use Rattle.rc_embed.specs.declared.session.State.TheVariants.{Idle, Prepared, PreparedGroup, Open, Moving}
 use Rattle.rc_embed.specs.Asked.{AskedCall, calls_by}

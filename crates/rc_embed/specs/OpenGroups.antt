@@ -2,16 +2,7 @@
 -- another, each with the replies before it known, and they are committed as one. (PLDI 2012, serializable transactions by
 -- two-phase locks.)
 use Rattle.std.specs.Prelude.{◌≡◌, ℕ, ◌==◌, nat_lt, List, length, if◌then◌else◌}
-use Rattle.std.specs.Prelude.{Option, Some, None, Result, IfErr, IfOk}
-use Rattle.rc_spec.specs.declared.call.Call.{Call}
-use Rattle.rc_spec.specs.declared.lock.Found.{Found}
-use Rattle.rc_spec.specs.declared.spec.Spec.{Spec}
-use Rattle.rc_multi.specs.Group.{Covers}
-use Rattle.rc_row.specs.Passes.{PassSeen, compiled_of, spec_of}
-use Rattle.rc_store.specs.Busy.{IsLockBusy}
-use Rattle.rc_store.specs.OpenGroups.{HasCalledOn, HasOpened, OpenGroupSeen, declared_locks}
-use Rattle.rc_store.specs.Store.{StoreSeen}
-use Rattle.rc_work.specs.CallColumns.{call_of, written_columns_at}
+use Rattle.rc_embed.specs.Imports.{Option, Some, None, Result, IfErr, IfOk, Call, Found, Spec, Covers, PassSeen, compiled_of, spec_of, IsLockBusy, HasCalledOn, HasOpened, OpenGroupSeen, declared_locks, StoreSeen, call_of, written_columns_at}
 use Rattle.rc_embed.specs.declared.fault.CallFault.{CallFault}
 use Rattle.rc_embed.specs.declared.fault.CallFault.TheVariants.{Memory, Busy, Spent, Count}
 use Rattle.rc_embed.specs.declared.fault.CallFault.TheVariants.{UnknownOperation, Values, Prepared}

@@ -1,29 +1,8 @@
 -- What opening a store answers, and what it hands out.
 use Rattle.std.specs.Prelude.{◌≡◌, ◌⊎◌, ℕ, ◌-◌, ◌<◌, ◌≤◌, ◌^◌, List, [], ◌∷◌, Result, Ok, Err, IfSome, length, unwrap_or}
-use Rattle.rc_spec.specs.declared.spec.Spec.{Spec}
-use Rattle.rc_spec.specs.declared.refusal.Refusal.{Refusal}
-use Rattle.rc_spec.specs.Acceptance.{IsAccepted, IsFirstBroken, IsItemOf}
-use Rattle.rc_spec.specs.Names.{IsWellNamed}
-use Rattle.rc_spec.specs.declared.items.Op.{Op}
-use Rattle.rc_spec.specs.Placement.{op_at}
-use Rattle.rc_inline.specs.Placing.{embedded}
-use Rattle.rc_handplan.specs.declared.hand.Hand.{Hand}
-use Rattle.rc_handplan.specs.declared.refusal.HandRule.{HandRule}
-use Rattle.rc_handplan.specs.Chosen.{AllKeepRules, AreChosen, IsFirstRefused}
-use Rattle.rc_handplan.specs.HandGrammar.{plans_of}
-use Rattle.rc_plan.specs.declared.refusal.PlanRefusal.{PlanRefusal}
-use Rattle.rc_plan.specs.Compiled.{IsCompiled, SpecWithPlans, plan_at}
-use Rattle.rc_query.specs.Planned.{IsPlanned}
-use Rattle.rc_reader.specs.Grammar.{spec_of, text_version}
-use Rattle.rc_reader.specs.declared.refusal.LineRule.{LineRule}
-use Rattle.rc_row.specs.declared.keeping.Keeping.TheVariants.{Counts}
-use Rattle.rc_row.specs.Law.{history_by}
+use Rattle.rc_embed.specs.Imports.{Spec, Refusal, IsAccepted, IsFirstBroken, IsItemOf, IsWellNamed, Op, op_at, embedded, Hand, HandRule, AllKeepRules, AreChosen, IsFirstRefused, plans_of, PlanRefusal, IsCompiled, SpecWithPlans, plan_at, IsPlanned, text_version, LineRule, Counts, history_by, PassSeen, compiled_of, new_passes, StoreSeen, HasKnownColumns, with_operations, shapes_of}
+use Rattle.rc_reader.specs.Grammar.{spec_of}
 use Rattle.rc_row.specs.Passes as rows
-use Rattle.rc_row.specs.Passes.{PassSeen, compiled_of, new_passes}
-use Rattle.rc_store.specs.Store.{StoreSeen}
-use Rattle.rc_work.specs.CallColumns.{HasKnownColumns}
-use Rattle.rc_work.specs.Shapes.{with_operations}
-use Rattle.rc_work.specs.ShapesGrammar.{shapes_of}
 use Rattle.rc_embed.specs.declared.fault.OpenFault.{OpenFault}
 use Rattle.rc_embed.specs.declared.fault.OpenFault.TheVariants.{Memory, Options, TooLong, Line}
 use Rattle.rc_embed.specs.declared.fault.OpenFault.TheVariants.{Plan, PlanLine, Rule, ShapeLine}

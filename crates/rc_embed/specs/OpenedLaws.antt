@@ -1,37 +1,7 @@
 -- What an open store has to do with the specification that its text gives, with the most rows of a reply that were asked for.
 use Rattle.std.proofs.Common.{◌≡◌, ◌↔◌, ℕ, List, [], ◌∷◌, length, take, drop, Option, ◌++◌, Some, None, Result, Ok, Err, inl, inr, ap, ◌∙◌, refl, subst, sym, arith}
-use Rattle.std.specs.List.{slice_get}
-use Rattle.std.specs.Option.{option_map_or}
-use Rattle.rc_tuple.specs.Tuple.{Pairs, tuple_of}
-use Rattle.rc_spec.specs.declared.call.Call.{Call}
-use Rattle.rc_spec.specs.declared.items.Op.{Op}
-use Rattle.rc_spec.specs.declared.spec.Spec.{Spec}
-use Rattle.rc_spec.specs.Calls.{Fits, value_columns}
-use Rattle.rc_spec.specs.Names.{IsWellNamed}
-use Rattle.rc_spec.specs.Plain.{plain}
-use Rattle.rc_spec.specs.Ranges.{range_columns}
-use Rattle.rc_inline.specs.Inlining.{HasItsSchema}
-use Rattle.rc_inline.specs.PlacingLaws.{embedded_named, embedded_schema}
-use Rattle.rc_inline.specs.SchemaLaws.{fits_same, fitting_of_one_schema, plain_same, value_columns_same}
-use Rattle.rc_inline.specs.Placing.{embedded}
-use Rattle.rc_handplan.specs.declared.hand.Hand.{Hand}
-use Rattle.rc_handplan.specs.AloneLaws.{no_text_no_plans}
-use Rattle.rc_handplan.specs.Chosen.{IsChosenBy, IsFirstRefused, plan_for}
-use Rattle.rc_handplan.specs.HandGrammar.{Broken, plans_of}
-use Rattle.rc_plan.specs.Compiled.{plan_at}
-use Rattle.rc_plan.specs.declared.refusal.PlanRefusal.{PlanRefusal}
+use Rattle.rc_embed.specs.Imports.{slice_get, option_map_or, Pairs, tuple_of, Call, Op, Spec, Fits, value_columns, IsWellNamed, plain, range_columns, HasItsSchema, embedded_named, embedded_schema, fits_same, fitting_of_one_schema, plain_same, value_columns_same, embedded, Hand, no_text_no_plans, IsChosenBy, IsFirstRefused, plan_for, Broken, plans_of, plan_at, PlanRefusal, text_version, Entry, Step, AllFit, AreLegalFrom, StepsFit, after_steps, replay, steps_of, IsGoodHistory, compiled_of, spec_of, call_of, columns_at, ranges_at, ranges_of, with_operations, shapes_of, no_shapes, with_none}
 use Rattle.rc_reader.specs.Grammar as lines
-use Rattle.rc_reader.specs.Grammar.{text_version}
-use Rattle.rc_rel.specs.declared.entry.Entry.{Entry}
-use Rattle.rc_rel.specs.declared.entry.Step.{Step}
-use Rattle.rc_rel.specs.History.{AllFit, AreLegalFrom, StepsFit, after_steps, replay, steps_of}
-use Rattle.rc_core.specs.Good.{IsGoodHistory}
-use Rattle.rc_row.specs.Passes.{compiled_of, spec_of}
-use Rattle.rc_work.specs.CallColumns.{call_of, columns_at, ranges_at, ranges_of}
-use Rattle.rc_work.specs.Shapes.{with_operations}
-use Rattle.rc_work.specs.ShapesGrammar.{shapes_of}
-use Rattle.rc_work.specs.ShapesGrammarLaws.{no_shapes}
-use Rattle.rc_work.specs.ShapesLaws.{with_none}
 use Rattle.rc_embed.specs.declared.opening.Options as asked
 use Rattle.rc_embed.specs.declared.fault.OpenFault.{OpenFault}
 use Rattle.rc_embed.specs.declared.fault.OpenFault.TheVariants.{Line, Memory, Options, Plan, PlanLine, Rule, ShapeLine, TooLong}

@@ -1,7 +1,6 @@
 -- Which passes of an open store its sessions have. (PLDI 2012, serializable transactions: a store is closed with all passes.)
 use Rattle.std.specs.Prelude.{◌≡◌, ◌↔◌, ℕ, ◌+◌, ◌<◌, List, length, map}
-use Rattle.std.specs.Ordering.{nat_cmp}
-use Rattle.rc_tuple.specs.RisingSet.{AreDistinct, In, IsRising}
+use Rattle.rc_embed.specs.Imports.{nat_cmp, AreDistinct, In, IsRising}
 use Rattle.rc_embed.specs.Closing.{number_of, pass_count}
 use Rattle.rc_embed.specs.Opened.{OpenSeen}
 

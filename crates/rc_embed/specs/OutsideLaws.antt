@@ -1,20 +1,12 @@
 -- Passes go out with sessions, and come back with them.
 use Rattle.std.proofs.Common.{◌≡◌, ◌↔◌, ◌⊎◌, ℕ, zero, suc, ◌+◌, ◌<◌, ◌≤◌, Bool, true, false, eqb, List, [], ◌∷◌, ◌++◌}
 use Rattle.std.proofs.Common.{length, map, take, drop, All, Some, IfSome, refl, sym, ap, ◌∙◌, inl, inr, subst, arith}
-use Rattle.std.specs.List.{range_with_len, slice_get}
-use Rattle.std.specs.Ordering.{nat_cmp}
-use Rattle.std.specs.declared.cmp.Ordering.TheVariants.{Less}
+use Rattle.rc_embed.specs.Imports.{range_with_len, slice_get, nat_cmp, Less, in_range_below, in_range_bounds, rising_range, AreDistinct, In, IsRising, append_in_right, nat_order, not_below_itself, same_rising, PassSeen, RowSeen, new_pass, ClosedSeen, StoreSeen}
 use Rattle.std.proofs.lemmas.Bool.{eqb-true, eq-eqb, false≢true}
 use Rattle.std.proofs.lemmas.Bool.Decides.{nat_tests}
 use Rattle.std.proofs.lemmas.List.{length-append, length-map}
 use Rattle.std.proofs.lemmas.List.FromFn.{length-range_with_len}
 use Rattle.std.proofs.lemmas.Option.{same_Some}
-use Rattle.rc_tuple.specs.ColSetLaws.{in_range_below, in_range_bounds, rising_range}
-use Rattle.rc_tuple.specs.RisingSet.{AreDistinct, In, IsRising}
-use Rattle.rc_tuple.specs.RisingSetLaws.{append_in_right, nat_order, not_below_itself, same_rising}
-use Rattle.rc_row.specs.Passes.{PassSeen, RowSeen, new_pass}
-use Rattle.rc_store.specs.Closed.{ClosedSeen}
-use Rattle.rc_store.specs.Store.{StoreSeen}
 use Rattle.rc_embed.specs.declared.opening.Options as asked
 use Rattle.rc_embed.specs.Closing.{HasAllPasses, HasTakenBack, number_of, pass_count}
 use Rattle.rc_embed.specs.Entries.{number_in}

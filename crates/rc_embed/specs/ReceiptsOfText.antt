@@ -1,14 +1,6 @@
 -- A receipt means one history of the specification that the store's text gives. (PLDI 2012, serializable transactions.)
 use Rattle.std.proofs.Common.{◌≡◌, ℕ, List, subst}
-use Rattle.rc_rel.specs.declared.entry.Step.{Step}
-use Rattle.rc_rel.specs.History.{own_placed}
-use Rattle.rc_rel.specs.PlaceLaws.{legal_last}
-use Rattle.rc_core.specs.declared.state.PassState.{PassState}
-use Rattle.rc_core.specs.Good.{IsGoodHistory}
-use Rattle.rc_core.specs.Passes.{next_of}
-use Rattle.rc_row.specs.Passes.{PassSeen, core_of}
-use Rattle.rc_store.specs.Receipts.{history_with}
-use Rattle.rc_store.specs.Store.{HasMadeEntry}
+use Rattle.rc_embed.specs.Imports.{Step, own_placed, legal_last, PassState, IsGoodHistory, next_of, PassSeen, core_of, history_with, HasMadeEntry}
 use Rattle.rc_embed.specs.declared.opening.Options as asked
 use Rattle.rc_embed.specs.OfText.{IsBehind}
 use Rattle.rc_embed.specs.Opened.{IsStoreOfTexts, OpenSeen}

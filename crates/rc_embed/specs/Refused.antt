@@ -1,16 +1,7 @@
 -- Why calls are refused.
 use Rattle.std.specs.Prelude.{◌≡◌, ℕ, Bool, ◌==◌, ◌&&◌, nat_le, nat_lt, List, [], ◌∷◌, length, if◌then◌else◌}
-use Rattle.std.specs.Prelude.{Option, Some, None, Result, IfErr, IfOk}
-use Rattle.std.specs.Option.{option_or}
-use Rattle.rc_spec.specs.declared.call.Call.{Call}
-use Rattle.rc_spec.specs.declared.lock.Found.{Found}
-use Rattle.rc_spec.specs.declared.spec.Spec.{Spec}
-use Rattle.rc_row.specs.Passes.{PassSeen, core_of, spec_of}
-use Rattle.rc_store.specs.Busy.{AreBusy}
-use Rattle.rc_store.specs.Store.{StoreSeen}
-use Rattle.rc_store.specs.declared.receipt.TryFault.{TryFault}
+use Rattle.rc_embed.specs.Imports.{Option, Some, None, Result, IfErr, IfOk, option_or, Call, Found, Spec, PassSeen, core_of, spec_of, AreBusy, StoreSeen, TryFault, written_columns_at}
 use Rattle.rc_store.specs.declared.receipt.TryFault.TheVariants as tries
-use Rattle.rc_work.specs.CallColumns.{written_columns_at}
 use Rattle.rc_embed.specs.declared.fault.CallFault.{CallFault}
 use Rattle.rc_embed.specs.declared.fault.CallFault.TheVariants.{Memory, Busy, Spent, Count}
 use Rattle.rc_embed.specs.declared.fault.CallFault.TheVariants.{UnknownOperation, Values, Prepared}

@@ -1,11 +1,6 @@
 -- Replies as a caller reads them: a kind, a number, and rows of values.
 use Rattle.std.specs.Prelude.{◌≡◌, ℕ, ◌+◌, ◌-◌, ◌<◌, ◌≤◌, nat_le, List, [], ◌∷◌, ◌++◌, length, map, take, drop, if◌then◌else◌}
-use Rattle.std.specs.Prelude.{Option, Some, None}
-use Rattle.std.specs.List.{flat_map}
-use Rattle.rc_tuple.specs.Tuple.{Pairs}
-use Rattle.rc_spec.specs.declared.call.Reply.{Reply}
-use Rattle.rc_spec.specs.declared.call.Reply.TheVariants.{Rows, Many, Inserted, Present}
-use Rattle.rc_spec.specs.declared.call.Reply.TheVariants.{Conflict, Removed, Updated, Absent}
+use Rattle.rc_embed.specs.Imports.{Option, Some, None, flat_map, Pairs, Reply, Rows, Many, Inserted, Present, Conflict, Removed, Updated, Absent}
 
 -- a tuple's values, in the order of its columns
 abbrev pub values_of : Pairs → List ℕ

@@ -1,19 +1,7 @@
 -- The one history goes on where a closed store does, by the specification of the later texts. (PLDI 2012, serializable
 -- transactions.)
 use Rattle.std.proofs.Common.{◌≡◌, ℕ, List, Some, sym, ap, ◌∙◌, subst}
-use Rattle.std.specs.List.{slice_get}
-use Rattle.rc_rel.specs.declared.entry.Entry.{Entry}
-use Rattle.rc_rel.specs.declared.entry.Step.{Step}
-use Rattle.rc_rel.specs.History.{IsPrefix, own_placed, replay}
-use Rattle.rc_rel.specs.HistoryLaws.{replay_in_states, states_satisfy}
-use Rattle.rc_core.specs.declared.state.PassState.{PassState}
-use Rattle.rc_row.specs.Passes.{PassSeen, spec_of}
-use Rattle.rc_store.specs.Closed.{ClosedSeen, HasClosed}
-use Rattle.rc_store.specs.Headline.{IsReceipt}
-use Rattle.rc_store.specs.ReceiptLaws.{entries_are_plain}
-use Rattle.rc_store.specs.Receipts.{KnowsAll}
-use Rattle.rc_store.specs.ResumedLaws.{resumed_histories_are_one}
-use Rattle.rc_store.specs.Store.{HasMadeEntry, StoreSeen}
+use Rattle.rc_embed.specs.Imports.{slice_get, Entry, Step, IsPrefix, own_placed, replay, replay_in_states, states_satisfy, PassState, PassSeen, spec_of, ClosedSeen, HasClosed, IsReceipt, entries_are_plain, KnowsAll, resumed_histories_are_one, HasMadeEntry, StoreSeen}
 use Rattle.rc_embed.specs.declared.opening.Options as asked
 use Rattle.rc_embed.specs.OfText.{IsBehind, IsHistoryOfText}
 use Rattle.rc_embed.specs.Opened.{OpenSeen}

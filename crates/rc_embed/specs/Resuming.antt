@@ -1,13 +1,7 @@
 -- How a store goes on that was closed: over texts, as a store is opened by them. (PLDI 2012, serializable transactions: its
 -- calls go on with the one legal history.)
 use Rattle.std.specs.Prelude.{◌≡◌, ℕ, ◌<◌, ◌≤◌, List, [], ◌∷◌, length}
-use Rattle.std.specs.List.{AllByRecursion}
-use Rattle.rc_tuple.specs.RisingSet.{In}
-use Rattle.rc_plan.specs.Compiled.{SpecWithPlans}
-use Rattle.rc_rel.specs.Further.{Extends}
-use Rattle.rc_row.specs.Passes.{spec_of}
-use Rattle.rc_store.specs.Closed.{ClosedSeen}
-use Rattle.rc_store.specs.Resumed.{HasResumed}
+use Rattle.rc_embed.specs.Imports.{AllByRecursion, In, SpecWithPlans, Extends, spec_of, ClosedSeen, HasResumed}
 use Rattle.rc_embed.specs.declared.fault.OpenFault.TheVariants as opens
 use Rattle.rc_embed.specs.declared.fault.ResumeFault.{ResumeFault}
 use Rattle.rc_embed.specs.declared.fault.ResumeFault.TheVariants.{Refused, Sessions, Limit, Other}

@@ -1,21 +1,10 @@
 -- What contracts see of a session, and what its calls make of it. (PLDI 2012, serializable
 -- transactions over striped locks.)
 use Rattle.std.specs.Prelude.{◌≡◌, ℕ, ◌<◌, ◌≤◌, List, [], ◌∷◌, Option, Some, None}
-use Rattle.std.specs.List.{slice_get}
-use Rattle.rc_spec.specs.declared.call.Call.{Call}
-use Rattle.rc_spec.specs.declared.call.Reply.{Reply}
-use Rattle.rc_rel.specs.declared.entry.Step.{Step}
-use Rattle.rc_core.specs.declared.state.PassState.{PassState}
-use Rattle.rc_row.specs.Passes.{HasLookedAt, PassSeen, compiled_of, core_of, spec_of}
-use Rattle.rc_store.specs.OpenGroups.{HoldsDeclared, IsOpenOn, OpenGroupSeen}
-use Rattle.rc_store.specs.Running.{HasBegunGroup, IsGroupRunningOn, IsRunningOn, RunningGroupSeen}
-use Rattle.rc_store.specs.Running.{RunningSeen, replies_of as replies_with}
-use Rattle.rc_store.specs.Store.{AreRepliesFor, HasMadeEntry, HasMadeGroup, HoldsExactly, IsAsBefore}
-use Rattle.rc_store.specs.Store.{IsFree, StoreSeen, one_step}
-use Rattle.rc_store.specs.declared.receipt.GroupReceipt.{GroupReceipt}
+use Rattle.rc_embed.specs.Imports.{slice_get, Call, Reply, Step, PassState, HasLookedAt, PassSeen, compiled_of, core_of, spec_of, HoldsDeclared, IsOpenOn, OpenGroupSeen, HasBegunGroup, IsGroupRunningOn, IsRunningOn, RunningGroupSeen, RunningSeen, AreRepliesFor, HasMadeEntry, HasMadeGroup, HoldsExactly, IsAsBefore, IsFree, StoreSeen, one_step, GroupReceipt, Position}
+use Rattle.rc_store.specs.Running.{replies_of as replies_with}
 use Rattle.rc_embed.specs.declared.session.Last.{Last}
 use Rattle.rc_embed.specs.declared.session.Last.TheVariants as lasts
-use Rattle.rc_store.specs.declared.receipt.Position.{Position}
 use Rattle.rc_embed.specs.declared.session.State.{State}
 use Rattle.rc_embed.specs.declared.session.State.TheVariants.{Idle, Prepared, PreparedGroup, Open, Moving}
 use Rattle.rc_embed.specs.Asked.{AskedCall, calls_by}

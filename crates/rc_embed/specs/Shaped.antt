@@ -1,11 +1,5 @@
 -- Operations by what they ask.
-use Rattle.std.specs.Prelude.{ℕ, List, Option, None, Result, Ok, Err}
-use Rattle.rc_spec.specs.declared.items.Op.{Op}
-use Rattle.rc_spec.specs.declared.spec.Spec.{Spec}
-use Rattle.rc_reader.specs.Unnamed.{unnamed_operation}
-use Rattle.rc_reader.specs.declared.refusal.LineRule.{LineRule}
-use Rattle.rc_reader.specs.declared.version.Version.TheVariants.{Two}
-use Rattle.rc_work.specs.ShapeRules.{shape_place}
+use Rattle.rc_embed.specs.Imports.{ℕ, List, Option, None, Result, Ok, Err, Op, Spec, unnamed_operation, LineRule, Two, shape_place}
 
 -- the first operation of this kind with these lists of columns, in written order
 abbrev pub number_of : Spec → Result Op LineRule → Option ℕ

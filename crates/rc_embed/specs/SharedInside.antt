@@ -1,9 +1,6 @@
 -- What a store shares with its sessions.
 use Rattle.std.specs.Prelude.{◌≡◌}
-use Rattle.rc_spec.specs.InRange.{IsInRange}
-use Rattle.rc_row.specs.declared.keeping.Keeping.TheVariants.{Counts}
-use Rattle.rc_row.specs.Passes.{spec_of}
-use Rattle.rc_work.specs.CallColumns.{HasKnownColumns}
+use Rattle.rc_embed.specs.Imports.{IsInRange, Counts, spec_of, HasKnownColumns}
 use Rattle.rc_embed.specs.Asked.{columns_of_all}
 use Rattle.rc_embed.specs.declared.shared.Shared.TheInside.{Inside}
 

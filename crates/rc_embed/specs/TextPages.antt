@@ -1,7 +1,6 @@
 -- Pages by which a store's plans are read.
 use Rattle.std.specs.Prelude.{◌≡◌, ◌⊎◌, ℕ, List, length, take, drop, Some}
-use Rattle.rc_handplan.specs.PlansText.{plans_text}
-use Rattle.rc_row.specs.Passes.{compiled_of, spec_of}
+use Rattle.rc_embed.specs.Imports.{plans_text, compiled_of, spec_of}
 use Rattle.rc_embed.specs.declared.text_page.TextPage.{TextPage}
 use Rattle.rc_embed.specs.Codes as codes
 use Rattle.rc_embed.specs.Opened.{OpenSeen}

@@ -1,31 +1,10 @@
 -- What a closed store leaves is of the specification that its text gives, and so are the replies that its sessions were
 -- told. (PLDI 2012, serializable transactions.)
 use Rattle.std.proofs.Common.{◌≡◌, ℕ, zero, suc, ◌<◌, List, [], ◌∷◌, ◌++◌, length, take, Option, Some, None, ap, ◌∙◌, refl, subst, sym, arith}
-use Rattle.std.specs.List.{slice_get}
+use Rattle.rc_embed.specs.Imports.{slice_get, In, in_slice_get, slice_get_in, Pairs, Call, Reply, Spec, plain, embedded, SpecWithPlans, Entry, Placed, Step, AreLegalFrom, IsLegal, after_steps, placed, relation_at, replay, steps_of, StandsIn, own_stands, same_places, stands_in_other, after_steps-append, IsOfRelation, PassSeen, spec_of, ClosedSeen, HasClosed, RunningGroupSeen, calls_of, StoreSeen, Position}
 use Rattle.std.proofs.lemmas.List.{append-nil}
 use Rattle.std.proofs.lemmas.Option.{same_Some}
-use Rattle.rc_tuple.specs.RisingSet.{In}
-use Rattle.rc_tuple.specs.RisingSetLaws.{in_slice_get, slice_get_in}
-use Rattle.rc_tuple.specs.Tuple.{Pairs}
-use Rattle.rc_spec.specs.declared.call.Call.{Call}
-use Rattle.rc_spec.specs.declared.call.Reply.{Reply}
-use Rattle.rc_spec.specs.declared.spec.Spec.{Spec}
-use Rattle.rc_spec.specs.Plain.{plain}
-use Rattle.rc_inline.specs.Placing.{embedded}
-use Rattle.rc_plan.specs.Compiled.{SpecWithPlans}
-use Rattle.rc_rel.specs.declared.entry.Entry.{Entry}
-use Rattle.rc_rel.specs.declared.entry.Placed.{Placed}
-use Rattle.rc_rel.specs.declared.entry.Step.{Step}
-use Rattle.rc_rel.specs.History.{AreLegalFrom, IsLegal, after_steps, placed, relation_at, replay, steps_of}
-use Rattle.rc_rel.specs.OwnLaws.{StandsIn, own_stands, same_places, stands_in_other}
-use Rattle.rc_rel.specs.HistoryLaws.{after_steps-append}
-use Rattle.rc_instance.specs.Instance.{IsOfRelation}
-use Rattle.rc_row.specs.Passes.{PassSeen, spec_of}
-use Rattle.rc_store.specs.Closed.{ClosedSeen, HasClosed}
-use Rattle.rc_store.specs.Running.{RunningGroupSeen, calls_of}
-use Rattle.rc_store.specs.Store.{StoreSeen}
 use Rattle.rc_embed.specs.declared.opening.Options as opening
-use Rattle.rc_store.specs.declared.receipt.Position.{Position}
 use Rattle.rc_embed.specs.Asked.{AskedCall, calls_by}
 use Rattle.rc_embed.specs.Entries.{HasEntry, HaveEntriesOf, StandsAt, entries_of}
 use Rattle.rc_embed.specs.EntriesLaws.{calls_stand, commits_stand, prepared_uncommitted}

@@ -1,21 +1,7 @@
 -- The value beside a column is that at the column's rank.
 use Rattle.std.specs.Prelude.{◌≡◌, ℕ, zero, suc, ◌+◌, ◌<◌, ◌==◌, true, false, cond, unwrap_or, Some, List, [], ◌∷◌, ◌++◌, map, length}
-use Rattle.std.specs.List.{slice_get, zip}
-use Rattle.std.specs.Ordering.{nat_cmp}
+use Rattle.rc_fragment.proofs.Imports.{slice_get, zip, nat_cmp, eq-eqb, false≢true, ne_eqb, length-map, take_all, take_more, slice_get_within, In, IsRising, has_in, slice_get_in, IsColSet, Within, has, rank, union, in_union, minus_in, rank_all, rank_more, slice_get-rank, Pairs, cols_of, get, value, value-project, Values, extra_columns, values_at, zip_from_values, zip_pairs, EdgeShape}
 use Rattle.std.proofs.Common.{sym, ap, ◌∙◌, inl, inr, arith, take, get_or}
-use Rattle.std.proofs.lemmas.Bool.{eq-eqb, false≢true, ne_eqb}
-use Rattle.std.proofs.lemmas.List.{length-map, take_all, take_more}
-use Rattle.std.proofs.lemmas.Option.{slice_get_within}
-use Rattle.rc_tuple.specs.RisingSet.{In, IsRising}
-use Rattle.rc_tuple.specs.RisingSetLaws.{has_in, slice_get_in}
-use Rattle.rc_tuple.specs.ColSet.{IsColSet, Within, has, rank, union}
-use Rattle.rc_tuple.specs.ColSetLaws.{in_union, minus_in, rank_all, rank_more, slice_get-rank}
-use Rattle.rc_tuple.specs.Tuple.{Pairs, cols_of, get, value}
-use Rattle.rc_tuple.specs.MergeLaws.{value-project}
-use Rattle.rc_edges.specs.Values.{Values}
-use Rattle.rc_fragment.specs.RowValues.{extra_columns, values_at}
-use Rattle.rc_fragment.specs.RowValuesLaws.{zip_from_values, zip_pairs}
-use Rattle.rc_fragment.specs.declared.shape.EdgeShape.{EdgeShape}
 use Rattle.rc_fragment.proofs.NoteLemmas.{less_lt}
 
 at_place : (cols : List ℕ) (values : Values) (i c : ℕ) → IsRising nat_cmp cols → length values ≡ length cols → slice_get cols i ≡ Some c → get_or values i 0 ≡ value (zip cols values) c

@@ -1,26 +1,7 @@
 -- What a change at one edge, source and key is to the rows of all edges.
 use Rattle.std.specs.Prelude.{◌≡◌, ℕ, zero, suc, ◌-◌, ◌<◌, Bool, true, false, cond, ◌==◌, ◌&&◌, Option, None, Some, IsSome, List, [], ◌∷◌, ◌⊎◌, map, length, slice_set}
-use Rattle.std.specs.List.{slice_get}
+use Rattle.rc_fragment.proofs.Imports.{slice_get, false≢true, and_parts, and_from, eqb-true, eq-eqb, slice_get-get_or, In, slice_get_in, Pairs, tuple_eq, same_from_test, test_from_same, Values, values_eq, Counted, HasAsMany, HasExtra, Rows, count_of, one_less, count_at, is_row_at, with_count, same_counts, AreCountedRows-with_count, count-with_count, kept_in, now_in, IsEmptiedAt, PlaceBecomes, HasValues, IsParted, extra_columns, row_from, extra_set, extra_within, length_values, AreOfWidth, found_at, kept_at, sources_of, IsEmptied, IsSetAt, Becomes, listing, shapes, found_of, found_by, IsFiled, IsStored, AreStored, Container, EdgeRows, EdgeShape}
 use Rattle.std.proofs.Common.{refl, sym, ap, subst, ◌∙◌, inl, inr, get_or}
-use Rattle.std.proofs.lemmas.Bool.{false≢true, and_parts, and_from, eqb-true, eq-eqb}
-use Rattle.std.proofs.lemmas.Option.{slice_get-get_or}
-use Rattle.rc_tuple.specs.RisingSet.{In}
-use Rattle.rc_tuple.specs.RisingSetLaws.{slice_get_in}
-use Rattle.rc_tuple.specs.Tuple.{Pairs, tuple_eq}
-use Rattle.rc_tuple.specs.TupleLaws.{same_from_test, test_from_same}
-use Rattle.rc_edges.specs.Values.{Values, values_eq}
-use Rattle.rc_edges.specs.EdgeMap.{Counted, HasAsMany, HasExtra, Rows, count_of, one_less}
-use Rattle.rc_spec.specs.CountedRows.{count_at, is_row_at, with_count}
-use Rattle.rc_spec.specs.CountedRowsLaws.{same_counts, AreCountedRows-with_count, count-with_count}
-use Rattle.rc_fragment.specs.Container.{kept_in, now_in}
-use Rattle.rc_fragment.specs.Notes.{IsEmptiedAt, PlaceBecomes}
-use Rattle.rc_fragment.specs.RowValues.{HasValues, IsParted, extra_columns, row_from}
-use Rattle.rc_fragment.specs.RowValuesLaws.{extra_set, extra_within, length_values}
-use Rattle.rc_fragment.specs.Sources.{AreOfWidth, found_at, kept_at, sources_of, IsEmptied, IsSetAt, Becomes}
-use Rattle.rc_fragment.specs.Listing.{listing, shapes, found_of, found_by, IsFiled, IsStored, AreStored}
-use Rattle.rc_fragment.specs.declared.container.Container.{Container}
-use Rattle.rc_fragment.specs.declared.edge_rows.EdgeRows.{EdgeRows}
-use Rattle.rc_fragment.specs.declared.shape.EdgeShape.{EdgeShape}
 use Rattle.rc_fragment.proofs.KeptLemmas.{set_there, there, there_is}
 use Rattle.rc_fragment.proofs.ListingLemmas.{count_of_row, count_of_edge, extra_in, found_for, key_in, row_with, source_in, AreCountedRows-listing, count_listed}
 use Rattle.rc_edges.specs.ValuesLaws.{same_from_test as values_same, test_from_same as values_test}

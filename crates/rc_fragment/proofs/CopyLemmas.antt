@@ -1,29 +1,12 @@
 -- What a copy of the containers keeps of them.
 use Rattle.std.specs.Prelude.{◌≡◌, ℕ, zero, suc, Bool, true, false, ◌<◌, cond, Option, None, Some, IsSome, List, [], ◌∷◌, ◌++◌, length}
-use Rattle.std.specs.Option.{option_map}
+use Rattle.rc_fragment.proofs.Imports.{option_map, find, get-empty, get-from_entries, length-map, Values, values_cmp, values_eq, Counted, Rows, AreApart, Form, form_in, kept_in, now_in, AreSame, AreSeenAlike, IsEmptied, SeenContainer, HaveForm, Sources, seen_container, sources_of, found_at, found_in, AreAlone, IsFragment, IsNoted, AreStored, IsStored, found_by, listing, shapes, HasRowValues, IsEmptiedAt, changes_of, key_of, noted_extra, source_of, HasValues, IsParted, row_from, Container, EdgeRows, Note, EdgeShape, get-written, values_order}
 use Rattle.std.specs.FinMap as fin
-use Rattle.std.specs.FinMap.{find, get-empty, get-from_entries}
 use Rattle.std.proofs.Common.{refl, sym, ap, subst, ◌∙◌, inl, inr}
-use Rattle.std.proofs.lemmas.List.{length-map}
-use Rattle.rc_edges.specs.Values.{Values, values_cmp, values_eq}
-use Rattle.rc_edges.specs.EdgeMap.{Counted, Rows}
-use Rattle.rc_maps.specs.Keyed.{AreApart}
-use Rattle.rc_fragment.specs.Container.{Form, form_in, kept_in, now_in}
-use Rattle.rc_fragment.specs.Sources.{AreSame, AreSeenAlike, IsEmptied, SeenContainer, HaveForm, Sources, seen_container, sources_of, found_at, found_in}
-use Rattle.rc_fragment.specs.Fragment.{AreAlone, IsFragment, IsNoted}
-use Rattle.rc_fragment.specs.Listing.{AreStored, IsStored, found_by, listing, shapes}
-use Rattle.rc_fragment.specs.Notes.{HasRowValues, IsEmptiedAt, changes_of, key_of, noted_extra, source_of}
-use Rattle.rc_fragment.specs.RowValues.{HasValues, IsParted, row_from}
-use Rattle.rc_fragment.specs.declared.container.Container.{Container}
-use Rattle.rc_fragment.specs.declared.edge_rows.EdgeRows.{EdgeRows}
-use Rattle.rc_fragment.specs.declared.note.Note.{Note}
-use Rattle.rc_fragment.specs.declared.shape.EdgeShape.{EdgeShape}
 use Rattle.rc_fragment.proofs.ChangeLemmas.{same_listing}
 use Rattle.rc_fragment.proofs.KeptLemmas.{there, there_by}
 use Rattle.rc_fragment.proofs.ListingLemmas.{find_later}
 use Rattle.rc_fragment.proofs.RowLemmas.{filed_now}
-use Rattle.rc_edges.specs.RowsLaws.{get-written}
-use Rattle.rc_edges.specs.ValuesLaws.{values_order}
 
 abbrev pub Seen : Type 0
 Seen = Option SeenContainer

@@ -1,21 +1,7 @@
 -- The first edge of a class whose rows are kept: its row is the first of a tuple's that is added.
 use Rattle.std.specs.Prelude.{◌≡◌, ℕ, zero, suc, ◌+◌, ◌<◌, ◌≤◌, ◌==◌, true, Option, None, Some, List, [], ◌∷◌, length}
-use Rattle.std.specs.List.{slice_get}
+use Rattle.rc_fragment.proofs.Imports.{slice_get, and_parts, false≢true, Pairs, Values, raised, EdgeRow, AreRowsOf, HasNoRowOf, HasRowOf, HasShape, IsLookedUp, IsLookedUpBy, edge_row, FragmentRows, changed, raised_all, kept_same, same_lookup, IsTable, full_rows, is_kept, is_kept_of_class, values_at, CanAddRow, CanAddTuple, IsFirstKept, IsPartlyAdded, changes_of_class, full_fragment, before_first, before_next, before_other, can_before, changed_before, partly_added, raised_last, room_before, rows_before, EdgeShape}
 use Rattle.std.proofs.Common.{refl, sym, ap, subst, ◌∙◌, arith}
-use Rattle.std.proofs.lemmas.Bool.{and_parts, false≢true}
-use Rattle.rc_tuple.specs.Tuple.{Pairs}
-use Rattle.rc_edges.specs.Values.{Values}
-use Rattle.rc_spec.specs.CountedRows.{raised}
-use Rattle.rc_spec.specs.Fragments.{EdgeRow}
-use Rattle.rc_fragment.specs.Fragment.{AreRowsOf, HasNoRowOf, HasRowOf, HasShape, IsLookedUp, IsLookedUpBy, edge_row}
-use Rattle.rc_fragment.specs.FragmentRows.{FragmentRows, changed}
-use Rattle.rc_fragment.specs.Implied.{raised_all}
-use Rattle.rc_fragment.specs.ImpliedReadsLaws.{kept_same, same_lookup}
-use Rattle.rc_fragment.specs.ImpliedTables.{IsTable, full_rows, is_kept, is_kept_of_class}
-use Rattle.rc_fragment.specs.RowValues.{values_at}
-use Rattle.rc_fragment.specs.Tuples.{CanAddRow, CanAddTuple, IsFirstKept, IsPartlyAdded, changes_of_class, full_fragment}
-use Rattle.rc_fragment.specs.TuplesLaws.{before_first, before_next, before_other, can_before, changed_before, partly_added, raised_last, room_before, rows_before}
-use Rattle.rc_fragment.specs.declared.shape.EdgeShape.{EdgeShape}
 
 there_is : {A : Type 0} (xs : List A) (k : ℕ) → k < length xs → (x : A) × (slice_get xs k ≡ Some x)
 there_is [] k l = absurd (omega (arith, l))

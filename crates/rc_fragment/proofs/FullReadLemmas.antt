@@ -1,20 +1,7 @@
 -- What is read of a fragment with the rows of all edges, by the rows that are kept.
 use Rattle.std.specs.Prelude.{◌≡◌, ℕ, ◌<◌, List, [], ◌∷◌, Option, None, Some, length, map}
-use Rattle.std.specs.List.{zip}
+use Rattle.rc_fragment.proofs.Imports.{zip, append-nil, slice_get_within, Pairs, Values, EdgeRow, AreAllRows, AreRowsOf, HasScanned, HasShape, IsFoundAt, IsLookedUp, IsScan, IsThereWith, FragmentRows, Implied, with_all, with_implied, HasListed, HasSource, HasSourceRows, HaveSameRows, implied_all, implied_found, implied_lookup, implied_no_scan, implied_none, implied_rows_at, implied_scan, kept_same, same_all, same_found, same_lookup, same_scan, same_scanned, IsLowerOf, IsTable, full_rows, implied_in, full_fragment, EdgeShape}
 use Rattle.std.proofs.Common.{refl, sym, ap, subst, ◌∙◌}
-use Rattle.std.proofs.lemmas.List.{append-nil}
-use Rattle.std.proofs.lemmas.Option.{slice_get_within}
-use Rattle.rc_tuple.specs.Tuple.{Pairs}
-use Rattle.rc_edges.specs.Values.{Values}
-use Rattle.rc_spec.specs.Fragments.{EdgeRow}
-use Rattle.rc_fragment.specs.Fragment.{AreAllRows, AreRowsOf, HasScanned, HasShape, IsFoundAt, IsLookedUp, IsScan, IsThereWith}
-use Rattle.rc_fragment.specs.FragmentRows.{FragmentRows}
-use Rattle.rc_fragment.specs.Implied.{Implied, with_all, with_implied}
-use Rattle.rc_fragment.specs.ImpliedReads.{HasListed, HasSource, HasSourceRows}
-use Rattle.rc_fragment.specs.ImpliedReadsLaws.{HaveSameRows, implied_all, implied_found, implied_lookup, implied_no_scan, implied_none, implied_rows_at, implied_scan, kept_same, same_all, same_found, same_lookup, same_scan, same_scanned}
-use Rattle.rc_fragment.specs.ImpliedTables.{IsLowerOf, IsTable, full_rows, implied_in}
-use Rattle.rc_fragment.specs.Tuples.{full_fragment}
-use Rattle.rc_fragment.specs.declared.shape.EdgeShape.{EdgeShape}
 use Rattle.rc_fragment.proofs.SourceReadLemmas.{source_width}
 
 -- no row implies none

@@ -1,17 +1,7 @@
 -- What is kept at a source and a key, and what is there.
 use Rattle.std.specs.Prelude.{◌≡◌, ℕ, ◌<◌, Bool, true, false, cond, ◌&&◌, Option, None, Some, IsSome, List, nat_lt}
-use Rattle.std.specs.List.{slice_get}
-use Rattle.std.specs.Option.{option_and_then}
+use Rattle.rc_fragment.proofs.Imports.{slice_get, option_and_then, ltb-false, Values, values_eq, Counted, count_of, one_less, present, get-current, present_is, kept_in, now_in, found_by, found_of, IsFiled, IsStored, IsSetAt, found_in, kept_at, now_at, Container, EdgeRows}
 use Rattle.std.proofs.Common.{refl, sym, ap, ◌∙◌, arith}
-use Rattle.std.proofs.lemmas.Bool.{ltb-false}
-use Rattle.rc_edges.specs.Values.{Values, values_eq}
-use Rattle.rc_edges.specs.EdgeMap.{Counted, count_of, one_less, present}
-use Rattle.rc_edges.specs.RowsLaws.{get-current, present_is}
-use Rattle.rc_fragment.specs.Container.{kept_in, now_in}
-use Rattle.rc_fragment.specs.Listing.{found_by, found_of, IsFiled, IsStored}
-use Rattle.rc_fragment.specs.Sources.{IsSetAt, found_in, kept_at, now_at}
-use Rattle.rc_fragment.specs.declared.container.Container.{Container}
-use Rattle.rc_fragment.specs.declared.edge_rows.EdgeRows.{EdgeRows}
 
 -- what is kept, where its count is at least 1
 abbrev pub there : Option Counted → Option Counted

@@ -20,3 +20,4 @@ mod OverLemmas
 mod FullReadLemmas
 mod NewLemmas
 mod FirstLemmas
+mod Imports

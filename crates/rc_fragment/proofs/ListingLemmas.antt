@@ -1,35 +1,9 @@
 -- The rows of edges by their counts.
 use Rattle.std.specs.Prelude.{◌≡◌, ℕ, zero, suc, ◌+◌, ◌<◌, Bool, true, false, cond, T, ◌&&◌, Option, None, Some, List, [], ◌∷◌, map}
-use Rattle.std.specs.List.{slice_get, AllByRecursion}
-use Rattle.std.specs.Map.{keys_of}
-use Rattle.std.specs.declared.cmp.Ordering.{Ordering}
-use Rattle.std.specs.declared.cmp.Ordering.TheVariants.{Less, Equal, Greater}
-use Rattle.std.specs.Ordering.{is_eq, is_lt, ordering_reverse}
+use Rattle.rc_fragment.proofs.Imports.{slice_get, AllByRecursion, keys_of, Ordering, Less, Equal, Greater, is_eq, is_lt, ordering_reverse, FinMap, find, is_sorted, get-entries, entries_sorted, below_all, false≢true, IsDistinct-head, IsDistinct-tail, none-some, In, rising_gather, in_gather, gather_in, in_flat_map, flat_map_in, in_map, map_in, in_append, append_in_left, append_in_right, Pairs, tuple_eq, same_from_test, test_from_same, Values, values_cmp, values_eq, Counted, Rows, AreApart, EdgeRow, edge_row_cmp, edge_row_order, count_at, AreCountedRows, in_count, count_none, HasValues, extra_columns, row_from, values_at, sources_of, found_in, found_at, row_at, rows_of_source, rows_of_edge, rows_from, listing, IsFiled, EdgeShape, Container, EdgeRows, values_order}
 use Rattle.std.specs.FinMap as fin
-use Rattle.std.specs.FinMap.{FinMap, find, is_sorted, get-entries, entries_sorted}
-use Rattle.std.specs.FinMap.Entries.{below_all}
 use Rattle.std.proofs.Common.{refl, sym, ap, subst, ◌∙◌, inl, inr, arith}
-use Rattle.std.proofs.lemmas.Bool.{false≢true}
-use Rattle.std.proofs.lemmas.Map.Keys.{IsDistinct-head, IsDistinct-tail}
-use Rattle.std.proofs.lemmas.Option.{none-some}
-use Rattle.rc_tuple.specs.RisingSet.{In}
-use Rattle.rc_tuple.specs.RisingSetLaws.{rising_gather, in_gather, gather_in, in_flat_map, flat_map_in, in_map, map_in, in_append, append_in_left, append_in_right}
-use Rattle.rc_tuple.specs.Tuple.{Pairs, tuple_eq}
-use Rattle.rc_tuple.specs.TupleLaws.{same_from_test, test_from_same}
-use Rattle.rc_edges.specs.Values.{Values, values_cmp, values_eq}
-use Rattle.rc_edges.specs.EdgeMap.{Counted, Rows}
-use Rattle.rc_maps.specs.Keyed.{AreApart}
-use Rattle.rc_spec.specs.Fragments.{EdgeRow, edge_row_cmp}
-use Rattle.rc_spec.specs.FragmentsLaws.{edge_row_order}
-use Rattle.rc_spec.specs.CountedRows.{count_at}
-use Rattle.rc_spec.specs.CountedRowsLaws.{AreCountedRows, in_count, count_none}
-use Rattle.rc_fragment.specs.RowValues.{HasValues, extra_columns, row_from, values_at}
-use Rattle.rc_fragment.specs.Sources.{sources_of, found_in, found_at}
-use Rattle.rc_fragment.specs.Listing.{row_at, rows_of_source, rows_of_edge, rows_from, listing, IsFiled}
-use Rattle.rc_fragment.specs.declared.shape.EdgeShape.{EdgeShape}
-use Rattle.rc_fragment.specs.declared.container.Container.{Container}
-use Rattle.rc_fragment.specs.declared.edge_rows.EdgeRows.{EdgeRows}
-use Rattle.rc_edges.specs.ValuesLaws.{values_order, same_from_test as values_same, test_from_same as values_test}
+use Rattle.rc_edges.specs.ValuesLaws.{same_from_test as values_same, test_from_same as values_test}
 
 -- ---- entries of a finite map, and what it answers
 

@@ -1,27 +1,8 @@
 -- What look-ups and scans answer, by the rows of all edges.
 use Rattle.std.specs.Prelude.{◌≡◌, ℕ, T, Option, None, Some, List, [], ◌∷◌, ◌++◌}
-use Rattle.std.specs.List.{flat_map, slice_get}
-use Rattle.std.specs.declared.cmp.Ordering.{Ordering}
-use Rattle.std.specs.declared.cmp.Ordering.TheVariants.{Less, Equal, Greater}
-use Rattle.std.specs.Ordering.{is_lt}
+use Rattle.rc_fragment.proofs.Imports.{flat_map, slice_get, Ordering, Less, Equal, Greater, is_lt, is_sorted, entries_sorted, below_all, none-some, In, IsRising, in_map, map_in, Pairs, Values, values_cmp, Counted, extra_of, now_in, AreAllRows, HasScanned, HasShape, IsFoundAt, IsThere, IsThereWith, IsLookedUp, IsScan, key_and_extra, listing, shapes, found_by, row_found, rows_with, source_rows, AreStored, HasValues, row_from, values_at, sources_of, found_in, found_at, now_at, listed_in, IsStoredRow, Container, EdgeRows, EdgeShape}
 use Rattle.std.specs.FinMap as fin
-use Rattle.std.specs.FinMap.{is_sorted, entries_sorted}
-use Rattle.std.specs.FinMap.Entries.{below_all}
 use Rattle.std.proofs.Common.{refl, sym, ap, subst, ◌∙◌, inl, inr}
-use Rattle.std.proofs.lemmas.Option.{none-some}
-use Rattle.rc_tuple.specs.RisingSet.{In, IsRising}
-use Rattle.rc_tuple.specs.RisingSetLaws.{in_map, map_in}
-use Rattle.rc_tuple.specs.Tuple.{Pairs}
-use Rattle.rc_edges.specs.Values.{Values, values_cmp}
-use Rattle.rc_edges.specs.EdgeMap.{Counted, extra_of}
-use Rattle.rc_fragment.specs.Container.{now_in}
-use Rattle.rc_fragment.specs.Fragment.{AreAllRows, HasScanned, HasShape, IsFoundAt, IsThere, IsThereWith, IsLookedUp, IsScan, key_and_extra}
-use Rattle.rc_fragment.specs.Listing.{listing, shapes, found_by, row_found, rows_with, source_rows, AreStored}
-use Rattle.rc_fragment.specs.RowValues.{HasValues, row_from, values_at}
-use Rattle.rc_fragment.specs.Sources.{sources_of, found_in, found_at, now_at, listed_in, IsStoredRow}
-use Rattle.rc_fragment.specs.declared.container.Container.{Container}
-use Rattle.rc_fragment.specs.declared.edge_rows.EdgeRows.{EdgeRows}
-use Rattle.rc_fragment.specs.declared.shape.EdgeShape.{EdgeShape}
 use Rattle.rc_fragment.proofs.ChangeLemmas.{found_there}
 use Rattle.rc_fragment.proofs.ListingLemmas.{entry_get, get_entry, extra_in, key_in, source_in, t_first, t_second, below_in}
 use Rattle.rc_fragment.proofs.RowLemmas.{shape_there, there_found, there_whole, found_row, found_values}

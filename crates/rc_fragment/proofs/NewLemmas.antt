@@ -1,28 +1,8 @@
 -- A row added only where none has its source and key.
 use Rattle.std.specs.Prelude.{◌≡◌, ℕ, ◌+◌, ◌<◌, Bool, true, false, Option, None, Some, IsSome, List, [], ◌∷◌, ◌++◌, length, slice_set}
-use Rattle.std.specs.List.{slice_get}
+use Rattle.rc_fragment.proofs.Imports.{slice_get, false≢true, slice_get_in, Pairs, cols_of, Values, Counted, HasExtra, IsAddedNew, count_of, extra_of, found, get-current, form_in, kept_in, now_in, HasColumns, HasNoRowOf, HasRowOf, IsFragment, IsLookedUp, IsLookedUpBy, edge_row, AreStored, found_by, listing, shapes, HasRowValues, IsNewPlace, IsWithin, Place, PlaceBecomes, kept_at_place, key_of, noted_extra, now_at_place, place_of, source_of, taken_rows, HasValues, extra_columns, row_from, values_at, IsSet, AreOfShape, AreSame, IsNewAt, IsSingle, found_in, kept_at, now_at, sources_of, CanAddRow, IsNewRow, Container, EdgeRows, Note, NotedRow, EdgeShape, SourceTable}
 use Rattle.std.specs.FinMap as fin
 use Rattle.std.proofs.Common.{refl, sym, ap, subst, ◌∙◌}
-use Rattle.std.proofs.lemmas.Bool.{false≢true}
-use Rattle.rc_tuple.specs.RisingSetLaws.{slice_get_in}
-use Rattle.rc_tuple.specs.Tuple.{Pairs, cols_of}
-use Rattle.rc_edges.specs.Values.{Values}
-use Rattle.rc_edges.specs.EdgeMap.{Counted, HasExtra, IsAddedNew, count_of, extra_of, found}
-use Rattle.rc_edges.specs.RowsLaws.{get-current}
-use Rattle.rc_fragment.specs.Container.{form_in, kept_in, now_in}
-use Rattle.rc_fragment.specs.Fragment.{HasColumns, HasNoRowOf, HasRowOf, IsFragment, IsLookedUp, IsLookedUpBy, edge_row}
-use Rattle.rc_fragment.specs.Listing.{AreStored, found_by, listing, shapes}
-use Rattle.rc_fragment.specs.Notes.{HasRowValues, IsNewPlace, IsWithin, Place, PlaceBecomes, kept_at_place, key_of, noted_extra, now_at_place, place_of, source_of, taken_rows}
-use Rattle.rc_fragment.specs.RowValues.{HasValues, extra_columns, row_from, values_at}
-use Rattle.rc_fragment.specs.SourceTable.{IsSet}
-use Rattle.rc_fragment.specs.Sources.{AreOfShape, AreSame, IsNewAt, IsSingle, found_in, kept_at, now_at, sources_of}
-use Rattle.rc_fragment.specs.Tuples.{CanAddRow, IsNewRow}
-use Rattle.rc_fragment.specs.declared.container.Container.{Container}
-use Rattle.rc_fragment.specs.declared.edge_rows.EdgeRows.{EdgeRows}
-use Rattle.rc_fragment.specs.declared.note.Note.{Note}
-use Rattle.rc_fragment.specs.declared.note.NotedRow.{NotedRow}
-use Rattle.rc_fragment.specs.declared.shape.EdgeShape.{EdgeShape}
-use Rattle.rc_fragment.specs.declared.source_table.SourceTable.{SourceTable}
 use Rattle.rc_fragment.proofs.ChangeLemmas.{found_there, place_changed, place_of_kept, place_of_row}
 use Rattle.rc_fragment.proofs.KeptLemmas.{count_there, there_by}
 use Rattle.rc_fragment.proofs.ListingLemmas.{extra_in, key_in, source_in}

@@ -1,18 +1,6 @@
 -- How many values a row has, and for how many notes there is room.
 use Rattle.std.specs.Prelude.{◌≡◌, ℕ, suc, ◌+◌, ◌-◌, ◌*◌, ◌/◌, ◌<◌, ◌≤◌, Bool, true, false, cond, List, [], ◌∷◌, length, map, min}
-use Rattle.std.specs.declared.cmp.Ordering.TheVariants.{Less}
-use Rattle.std.specs.Ordering.{nat_cmp}
-use Rattle.std.proofs.Common.{refl, inl, inr, arith}
-use Rattle.std.proofs.lemmas.List.{length-map}
-use Rattle.std.proofs.lemmas.Bool.Decides.{nat_tests}
-use Rattle.std.proofs.Math.Nat.{min-le_left, min-le_right, div-mul-le_self}
-use Rattle.rc_tuple.specs.RisingSet.{In, IsRising}
-use Rattle.rc_tuple.specs.RisingSetLaws.{in_map, in_has}
-use Rattle.rc_tuple.specs.ColSet.{has, union}
-use Rattle.rc_tuple.specs.ColSetLaws.{in_minus, union_left, union_right}
-use Rattle.rc_tuple.specs.Tuple.{Pairs, IsTuple, cols_of, project}
-use Rattle.rc_fragment.specs.RowValues.{IsParted, extra_columns, values_at}
-use Rattle.rc_fragment.specs.declared.shape.EdgeShape.{EdgeShape}
+use Rattle.rc_fragment.proofs.Imports.{Less, nat_cmp, refl, inl, inr, arith, length-map, nat_tests, min-le_left, min-le_right, div-mul-le_self, In, IsRising, in_map, in_has, has, union, in_minus, union_left, union_right, Pairs, IsTuple, cols_of, project, IsParted, extra_columns, values_at, EdgeShape}
 
 -- ---- a tuple has at most 32 pairs
 

@@ -1,25 +1,7 @@
 -- A change of a row's count with the note of it: what is noted, and what is left to be undone.
 use Rattle.std.specs.Prelude.{◌≡◌, ◌==◌, ℕ, zero, suc, pred, false, ◌+◌, ◌<◌, true, Option, None, Some, IsSome, List, [], ◌∷◌, ◌++◌, length}
-use Rattle.std.specs.List.{slice_get}
+use Rattle.rc_fragment.proofs.Imports.{slice_get, slice_get_in, Pairs, cols_of, eq-eqb, false≢true, counts, Values, Counted, HasExtra, count_of, one_less, count_at, lowered, raised, with_count, EdgeRow, kept_in, now_in, HasAlone, IsFragment, AreStored, found_by, listing, shapes, HasRowValues, IsWithin, Place, PlaceBecomes, change_of, kept_at_place, key_of, noted_extra, place_of, source_of, taken_rows, HasValues, row_from, values_of_row, EdgeRows, Note, NotedRow, EdgeShape}
 use Rattle.std.proofs.Common.{refl, sym, ap, subst, ◌∙◌, arith}
-use Rattle.rc_tuple.specs.RisingSetLaws.{slice_get_in}
-use Rattle.rc_tuple.specs.Tuple.{Pairs, cols_of}
-use Rattle.std.proofs.lemmas.Bool.{eq-eqb, false≢true}
-use Rattle.rc_edges.specs.RowsLaws.{counts}
-use Rattle.rc_edges.specs.Values.{Values}
-use Rattle.rc_edges.specs.EdgeMap.{Counted, HasExtra, count_of, one_less}
-use Rattle.rc_spec.specs.CountedRows.{count_at, lowered, raised, with_count}
-use Rattle.rc_spec.specs.Fragments.{EdgeRow}
-use Rattle.rc_fragment.specs.Container.{kept_in, now_in}
-use Rattle.rc_fragment.specs.Fragment.{HasAlone, IsFragment}
-use Rattle.rc_fragment.specs.Listing.{AreStored, found_by, listing, shapes}
-use Rattle.rc_fragment.specs.Notes.{HasRowValues, IsWithin, Place, PlaceBecomes, change_of, kept_at_place, key_of, noted_extra, place_of, source_of, taken_rows}
-use Rattle.rc_fragment.specs.RowValues.{HasValues, row_from}
-use Rattle.rc_fragment.specs.RowValuesLaws.{values_of_row}
-use Rattle.rc_fragment.specs.declared.edge_rows.EdgeRows.{EdgeRows}
-use Rattle.rc_fragment.specs.declared.note.Note.{Note}
-use Rattle.rc_fragment.specs.declared.note.NotedRow.{NotedRow}
-use Rattle.rc_fragment.specs.declared.shape.EdgeShape.{EdgeShape}
 use Rattle.rc_fragment.proofs.ChangeLemmas.{IsWholeRow}
 use Rattle.rc_fragment.proofs.KeptLemmas.{count_there, kept_some, less_some, there, there_by}
 use Rattle.rc_fragment.proofs.ListingLemmas.{AreCountedRows-listing, extra_in, key_in, source_in}

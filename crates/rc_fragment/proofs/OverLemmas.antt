@@ -1,12 +1,7 @@
 -- Tuples over some columns, cut from a flat list of their values.
 use Rattle.std.specs.Prelude.{◌≡◌, ◌+◌, ◌<◌, ◌++◌, List, [], ◌∷◌, length, map}
-use Rattle.std.specs.List.{flat_map, zip}
+use Rattle.rc_fragment.proofs.Imports.{flat_map, zip, append_assoc, append-nil, length-append, drop-append_seam, take-append_seam, Pairs, Values, HaveWidth}
 use Rattle.std.proofs.Common.{refl, sym, ap, ◌∙◌, arith, inl, inr, take, drop}
-use Rattle.std.proofs.lemmas.List.{append_assoc, append-nil, length-append}
-use Rattle.std.proofs.Math.Seq.{drop-append_seam, take-append_seam}
-use Rattle.rc_tuple.specs.Tuple.{Pairs}
-use Rattle.rc_edges.specs.Values.{Values}
-use Rattle.rc_fragment.specs.RowValues.{HaveWidth}
 
 -- of the lists' tuples those of the lists that are left in the flat list are still to come
 pub record AreCut (cols rest : Values) (rows : List Pairs) (lists : List Values) : Type 0 where

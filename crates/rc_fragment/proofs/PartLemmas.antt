@@ -1,16 +1,7 @@
 -- A row's values, parted by source, key and the extra columns: those of each part in one run, as one pair of the row after another is put there.
 use Rattle.std.specs.Prelude.{◌≡◌, ℕ, ◌+◌, ◌-◌, ◌≤◌, Bool, true, false, cond, List, [], ◌∷◌, ◌++◌, filter, length, map, take, drop}
-use Rattle.std.specs.List.{insert}
+use Rattle.rc_fragment.proofs.Imports.{insert, append_assoc, append-nil, length-append, map-append, drop-append_seam, take-append_seam, filter-append, insert-append_left, insert-append_right, insert_end, false≢true, has, Pairs, IsParted, extra_columns, values_at, EdgeShape}
 use Rattle.std.proofs.Common.{refl, sym, ap, ◌∙◌, arith}
-use Rattle.std.proofs.lemmas.List.{append_assoc, append-nil, length-append, map-append}
-use Rattle.std.proofs.Math.Seq.{drop-append_seam, take-append_seam}
-use Rattle.std.proofs.lemmas.List.Elements.{filter-append}
-use Rattle.std.proofs.lemmas.List.Edits.{insert-append_left, insert-append_right, insert_end}
-use Rattle.std.proofs.lemmas.Bool.{false≢true}
-use Rattle.rc_tuple.specs.ColSet.{has}
-use Rattle.rc_tuple.specs.Tuple.{Pairs}
-use Rattle.rc_fragment.specs.RowValues.{IsParted, extra_columns, values_at}
-use Rattle.rc_fragment.specs.declared.shape.EdgeShape.{EdgeShape}
 use Rattle.rc_fragment.proofs.NoteLemmas.{at_pair, parted_columns}
 
 -- ---- one more pair

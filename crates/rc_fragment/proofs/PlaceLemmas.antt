@@ -1,28 +1,7 @@
 -- Noted changes: what one is, and how it is undone.
 use Rattle.std.specs.Prelude.{◌≡◌, ℕ, ◌+◌, ◌-◌, ◌<◌, ◌≤◌, Bool, true, false, cond, ◌==◌, ◌&&◌, Option, None, Some, IsSome, List, [], ◌∷◌, ◌++◌, ◌⊎◌, length, take, drop}
-use Rattle.std.specs.List.{slice_get}
+use Rattle.rc_fragment.proofs.Imports.{slice_get, and_parts, and_from, eqb-true, eq-eqb, length-map, length-append, length-drop, map-append, drop-append-le, take-append-le, In, in_append, in_map, append_in_left, append_in_right, Pairs, cols_of, Values, values_eq, Counted, count_at, with_count, AreCountedRows, EdgeRow, kept_in, now_in, AreAlone, AreNoted, HasAlone, HasColumns, IsFragment, IsNoted, IsSweptBy, NoneIsEmptied, found_by, listing, shapes, AreStored, HasRowValues, IsWithin, IsSetPlace, Place, PlaceBecomes, change_of, changes_of, kept_at_place, key_of, noted_extra, place_of, row_noted, source_of, taken_rows, undone, row_from, IsSetAt, EdgeRows, Note, NotedRow, Committed, EdgeShape}
 use Rattle.std.proofs.Common.{refl, sym, ap, subst, ◌∙◌, inl, inr, arith}
-use Rattle.std.proofs.lemmas.Bool.{and_parts, and_from, eqb-true, eq-eqb}
-use Rattle.std.proofs.lemmas.List.{length-map, length-append, length-drop, map-append, drop-append-le, take-append-le}
-use Rattle.rc_tuple.specs.RisingSet.{In}
-use Rattle.rc_tuple.specs.RisingSetLaws.{in_append, in_map, append_in_left, append_in_right}
-use Rattle.rc_tuple.specs.Tuple.{Pairs, cols_of}
-use Rattle.rc_edges.specs.Values.{Values, values_eq}
-use Rattle.rc_edges.specs.EdgeMap.{Counted}
-use Rattle.rc_spec.specs.CountedRows.{count_at, with_count}
-use Rattle.rc_spec.specs.CountedRowsLaws.{AreCountedRows}
-use Rattle.rc_spec.specs.Fragments.{EdgeRow}
-use Rattle.rc_fragment.specs.Container.{kept_in, now_in}
-use Rattle.rc_fragment.specs.Fragment.{AreAlone, AreNoted, HasAlone, HasColumns, IsFragment, IsNoted, IsSweptBy, NoneIsEmptied}
-use Rattle.rc_fragment.specs.Listing.{found_by, listing, shapes, AreStored}
-use Rattle.rc_fragment.specs.Notes.{HasRowValues, IsWithin, IsSetPlace, Place, PlaceBecomes, change_of, changes_of, kept_at_place, key_of, noted_extra, place_of, row_noted, source_of, taken_rows, undone}
-use Rattle.rc_fragment.specs.RowValues.{row_from}
-use Rattle.rc_fragment.specs.Sources.{IsSetAt}
-use Rattle.rc_fragment.specs.declared.edge_rows.EdgeRows.{EdgeRows}
-use Rattle.rc_fragment.specs.declared.note.Note.{Note}
-use Rattle.rc_fragment.specs.declared.note.NotedRow.{NotedRow}
-use Rattle.rc_fragment.specs.declared.note.Sweep.TheVariants.{Committed}
-use Rattle.rc_fragment.specs.declared.shape.EdgeShape.{EdgeShape}
 use Rattle.rc_fragment.proofs.KeptLemmas.{there_by, there_is}
 use Rattle.rc_fragment.proofs.UndoLemmas.{AreOfTable, alone-last, alone_with_count, undone-last, with_count_back}
 use Rattle.rc_edges.specs.ValuesLaws.{same_from_test as values_same, test_from_same as values_test}

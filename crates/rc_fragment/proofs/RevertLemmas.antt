@@ -1,25 +1,7 @@
 -- Noted changes undone one by one, and tombstones swept.
 use Rattle.std.specs.Prelude.{◌≡◌, ℕ, zero, suc, ◌+◌, ◌<◌, false, ◌⊎◌, Option, None, Some, List, [], ◌∷◌, ◌++◌, length, take}
-use Rattle.std.specs.List.{slice_get}
+use Rattle.rc_fragment.proofs.Imports.{slice_get, false≢true, eq-eqb, map-append, take_all, take_more, In, get_or_in, in_append, slice_get_there, Pairs, Values, Counted, HasExtra, count_of, present, present_is, EdgeRow, kept_in, now_in, AreAlone, AreNoted, AreTombstonesNoted, HasAlone, IsFragment, IsNoted, IsSweptBy, NoneIsEmptied, AreStored, found_by, listing, shapes, IsSetPlace, Place, PlaceBecomes, change_of, changes_of, is_swept, kept_at_place, key_of, noted_extra, now_at_place, place_of, set_back, source_of, taken_rows, undone, HasValues, row_from, EdgeRows, Note, Sweep, Committed, RolledBack}
 use Rattle.std.proofs.Common.{refl, sym, ap, subst, ◌∙◌, inl, inr, arith, get_or}
-use Rattle.std.proofs.lemmas.Bool.{false≢true, eq-eqb}
-use Rattle.std.proofs.lemmas.List.{map-append, take_all, take_more}
-use Rattle.rc_tuple.specs.RisingSet.{In}
-use Rattle.rc_tuple.specs.RisingSetLaws.{get_or_in, in_append, slice_get_there}
-use Rattle.rc_tuple.specs.Tuple.{Pairs}
-use Rattle.rc_edges.specs.Values.{Values}
-use Rattle.rc_edges.specs.EdgeMap.{Counted, HasExtra, count_of, present}
-use Rattle.rc_edges.specs.RowsLaws.{present_is}
-use Rattle.rc_spec.specs.Fragments.{EdgeRow}
-use Rattle.rc_fragment.specs.Container.{kept_in, now_in}
-use Rattle.rc_fragment.specs.Fragment.{AreAlone, AreNoted, AreTombstonesNoted, HasAlone, IsFragment, IsNoted, IsSweptBy, NoneIsEmptied}
-use Rattle.rc_fragment.specs.Listing.{AreStored, found_by, listing, shapes}
-use Rattle.rc_fragment.specs.Notes.{IsSetPlace, Place, PlaceBecomes, change_of, changes_of, is_swept, kept_at_place, key_of, noted_extra, now_at_place, place_of, set_back, source_of, taken_rows, undone}
-use Rattle.rc_fragment.specs.RowValues.{HasValues, row_from}
-use Rattle.rc_fragment.specs.declared.edge_rows.EdgeRows.{EdgeRows}
-use Rattle.rc_fragment.specs.declared.note.Note.{Note}
-use Rattle.rc_fragment.specs.declared.note.Sweep.{Sweep}
-use Rattle.rc_fragment.specs.declared.note.Sweep.TheVariants.{Committed, RolledBack}
 use Rattle.rc_fragment.proofs.KeptLemmas.{there, there_again, there_by, there_is, there_with}
 use Rattle.rc_fragment.proofs.ListingLemmas.{extra_in, key_in, source_in}
 use Rattle.rc_fragment.proofs.PlaceLemmas.{emptied_still, kept_here, noted_all, row_of_note, set_as_it_was, kept_before}

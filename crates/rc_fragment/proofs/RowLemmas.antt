@@ -1,27 +1,8 @@
 -- A row of the list of all rows and the place at which it is kept.
 use Rattle.std.specs.Prelude.{◌≡◌, ℕ, zero, suc, pred, ◌-◌, ◌<◌, Option, None, Some, IsSome, List, [], ◌∷◌, length, map}
-use Rattle.std.specs.List.{slice_get}
+use Rattle.rc_fragment.proofs.Imports.{slice_get, FinMap, get-empty, false≢true, In, slice_get_in, in_slice_get, Pairs, cols_of, Values, values_cmp, Counted, HasExtra, Rows, count_of, one_less, present, present_is, count_at, with_count, kept_in, now_in, AreRowsOf, HasAlone, HasSingle, IsFragment, IsThere, listing, shapes, found_of, found_by, AreStored, AreEmpty, Place, PlaceBecomes, kept_at_place, HasValues, IsParted, row_from, row_from_values, same_key, same_source, found_in, found_at, sources_of, now_at, IsSingle, Container, EdgeRows, EdgeShape}
 use Rattle.std.specs.FinMap as fin
-use Rattle.std.specs.FinMap.{FinMap, get-empty}
 use Rattle.std.proofs.Common.{refl, sym, ap, subst, ◌∙◌, inl, arith}
-use Rattle.std.proofs.lemmas.Bool.{false≢true}
-use Rattle.rc_tuple.specs.RisingSet.{In}
-use Rattle.rc_tuple.specs.RisingSetLaws.{slice_get_in, in_slice_get}
-use Rattle.rc_tuple.specs.Tuple.{Pairs, cols_of}
-use Rattle.rc_edges.specs.Values.{Values, values_cmp}
-use Rattle.rc_edges.specs.EdgeMap.{Counted, HasExtra, Rows, count_of, one_less, present}
-use Rattle.rc_edges.specs.RowsLaws.{present_is}
-use Rattle.rc_spec.specs.CountedRows.{count_at, with_count}
-use Rattle.rc_fragment.specs.Container.{kept_in, now_in}
-use Rattle.rc_fragment.specs.Fragment.{AreRowsOf, HasAlone, HasSingle, IsFragment, IsThere}
-use Rattle.rc_fragment.specs.Listing.{listing, shapes, found_of, found_by, AreStored, AreEmpty}
-use Rattle.rc_fragment.specs.Notes.{Place, PlaceBecomes, kept_at_place}
-use Rattle.rc_fragment.specs.RowValues.{HasValues, IsParted, row_from}
-use Rattle.rc_fragment.specs.RowValuesLaws.{row_from_values, same_key, same_source}
-use Rattle.rc_fragment.specs.Sources.{found_in, found_at, sources_of, now_at, IsSingle}
-use Rattle.rc_fragment.specs.declared.container.Container.{Container}
-use Rattle.rc_fragment.specs.declared.edge_rows.EdgeRows.{EdgeRows}
-use Rattle.rc_fragment.specs.declared.shape.EdgeShape.{EdgeShape}
 use Rattle.rc_fragment.proofs.ChangeLemmas.{AreFiled, IsWholeRow, found_there, same_listing, listing_set, row_count_at}
 use Rattle.rc_fragment.proofs.KeptLemmas.{count_there, filed_there, there, there_by}
 use Rattle.rc_fragment.proofs.ListingLemmas.{AreCountedRows-listing, IsFoundRow, extra_in, found_for, key_in, listed_row, own_place, own_row, own_values, row_listed, source_in}

@@ -1,37 +1,8 @@
 -- Which sources have rows.
 use Rattle.std.specs.Prelude.{◌≡◌, ℕ, zero, suc, ◌<◌, ◌++◌, ◌==◌, ◌↔◌, Bool, IsTrue, not, true, false, List, [], ◌∷◌, Option, None, Some, IsSome, filter, length, map, if◌then◌else◌}
-use Rattle.std.specs.List.{flat_map, slice_get}
-use Rattle.std.specs.Option.{option_and_then}
-use Rattle.std.specs.Vec.{vec_len}
+use Rattle.rc_fragment.proofs.Imports.{flat_map, slice_get, option_and_then, vec_len, FinMap, get-from_entries, Ordering, eqb-true, false≢true, lt-ltb, ltb-true, nil_from_length, In, IsRising, filter_in, in_filter, in_map, map_in, rising_filter, Values, values_cmp, Counted, present, get-current, head_below, tail_sorted, values_order, Keyed, IsKeyed, pair_of, apart_rising, EdgeRow, kept_in, now_in, AreRowsOf, HasShape, IsFragment, IsSweptBy, AreSources, HasListed, HasSource, AreStored, found_by, listing, shapes, HaveWidth, IsParted, row_from, length_values, HasPushed, HasRowAt, IsClean, found_in, is_shown, kept_at, now_at, shown_sources, sources_of, Container, EdgeRows, Note, Committed, EdgeShape, Parts}
 use Rattle.std.specs.FinMap as fin
-use Rattle.std.specs.FinMap.{FinMap, get-from_entries}
-use Rattle.std.specs.declared.cmp.Ordering.{Ordering}
 use Rattle.std.proofs.Common.{refl, sym, ap, subst, ◌∙◌, arith, inl}
-use Rattle.std.proofs.lemmas.Bool.{eqb-true, false≢true, lt-ltb, ltb-true}
-use Rattle.std.proofs.lemmas.List.{nil_from_length}
-use Rattle.rc_tuple.specs.RisingSet.{In, IsRising}
-use Rattle.rc_tuple.specs.RisingSetLaws.{filter_in, in_filter, in_map, map_in, rising_filter}
-use Rattle.rc_edges.specs.Values.{Values, values_cmp}
-use Rattle.rc_edges.specs.EdgeMap.{Counted, present}
-use Rattle.rc_edges.specs.RowsLaws.{get-current, head_below, tail_sorted}
-use Rattle.rc_edges.specs.ValuesLaws.{values_order}
-use Rattle.rc_maps.specs.declared.keyed.Keyed.{Keyed}
-use Rattle.rc_maps.specs.Keyed.{IsKeyed, pair_of}
-use Rattle.rc_maps.specs.WalkLaws.{apart_rising}
-use Rattle.rc_spec.specs.Fragments.{EdgeRow}
-use Rattle.rc_fragment.specs.Container.{kept_in, now_in}
-use Rattle.rc_fragment.specs.Fragment.{AreRowsOf, HasShape, IsFragment, IsSweptBy}
-use Rattle.rc_fragment.specs.ImpliedReads.{AreSources, HasListed, HasSource}
-use Rattle.rc_fragment.specs.Listing.{AreStored, found_by, listing, shapes}
-use Rattle.rc_fragment.specs.RowValues.{HaveWidth, IsParted, row_from}
-use Rattle.rc_fragment.specs.RowValuesLaws.{length_values}
-use Rattle.rc_fragment.specs.Sources.{HasPushed, HasRowAt, IsClean, found_in, is_shown, kept_at, now_at, shown_sources, sources_of}
-use Rattle.rc_fragment.specs.declared.container.Container.{Container}
-use Rattle.rc_fragment.specs.declared.edge_rows.EdgeRows.{EdgeRows}
-use Rattle.rc_fragment.specs.declared.note.Note.{Note}
-use Rattle.rc_fragment.specs.declared.note.Sweep.TheVariants.{Committed}
-use Rattle.rc_fragment.specs.declared.shape.EdgeShape.{EdgeShape}
-use Rattle.rc_fragment.specs.declared.stored.Parts.{Parts}
 use Rattle.rc_fragment.proofs.ChangeLemmas.{found_there}
 use Rattle.rc_fragment.proofs.ListingLemmas.{below_in, entry_get, find_in, get_entry, key_in}
 use Rattle.rc_fragment.proofs.LookupLemmas.{is_less}

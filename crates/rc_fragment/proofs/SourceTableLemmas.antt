@@ -1,24 +1,10 @@
 -- What the place of the source without columns is as a map.
 use Rattle.std.specs.Prelude.{◌≡◌, ◌==◌, ℕ, Bool, true, false, cond, Option, None, Some, List, [], ◌∷◌, ◌++◌, length, map}
 use Rattle.std.specs.List.{IsDistinct}
-use Rattle.std.specs.Option.{OnSome, option_map}
+use Rattle.rc_fragment.proofs.Imports.{OnSome, option_map, get-empty, eqb-true, nil_from_length, none-some, Values, values_cmp, values_eq, written, get-written, written_again, written_twice, AreApart, pair_of, Keyed, Container, containers_of, width_for, AreSeenAlike, seen_container, Root}
 use Rattle.std.specs.FinMap as fin
-use Rattle.std.specs.FinMap.{get-empty}
 use Rattle.std.proofs.Common.{refl, sym, ap, subst, ◌∙◌}
-use Rattle.std.proofs.lemmas.Bool.{eqb-true}
-use Rattle.std.proofs.lemmas.List.{nil_from_length}
-use Rattle.std.proofs.lemmas.Option.{none-some}
-use Rattle.rc_edges.specs.Values.{Values, values_cmp, values_eq}
-use Rattle.rc_edges.specs.EdgeMap.{written}
-use Rattle.rc_edges.specs.RowsLaws.{get-written, written_again}
 use Rattle.rc_edges.specs.ValuesLaws.{same_from_test, test_from_same}
-use Rattle.rc_maps.specs.TableLaws.{written_twice}
-use Rattle.rc_maps.specs.Keyed.{AreApart, pair_of}
-use Rattle.rc_maps.specs.declared.keyed.Keyed.{Keyed}
-use Rattle.rc_fragment.specs.declared.container.Container.{Container}
-use Rattle.rc_fragment.specs.SourceTable.{containers_of, width_for}
-use Rattle.rc_fragment.specs.Sources.{AreSeenAlike, seen_container}
-use Rattle.rc_fragment.specs.declared.source_table.SourceTable.TheVariants.{Root}
 
 -- ---- widths
 

@@ -1,25 +1,11 @@
 -- What one change of the map from sources to containers is to the rows that are found in it.
 use Rattle.std.specs.Prelude.{◌≡◌, ◌==◌, ℕ, Bool, true, false, cond, ◌&&◌, ◌⊎◌, Option, None, Some, IsSome, length}
-use Rattle.std.specs.Prelude.{Result, Ok, Err, OnOk, OnErr, IfOk}
+use Rattle.rc_fragment.proofs.Imports.{Result, Ok, Err, OnOk, OnErr, IfOk, FinMap, get-empty, false≢true, eqb-true, Values, values_cmp, values_eq, option_and_then, Counted, HasWidth, Rows, present, written, EdgeKind, Form, form_in, kept_in, now_in, takes, takes_one, IsSet, containers_of, width_for, width_of, AreOfShape, AreSame, Becomes, Sources, form_of, sources_of, found_in, found_at, IsEmptied, IsSetAt, HaveForm, Container, EdgeRows, EdgeShape, SourceTable, get-current, get-written}
 use Rattle.std.specs.FinMap as fin
-use Rattle.std.specs.FinMap.{FinMap, get-empty}
 use Rattle.std.proofs.Common.{refl, sym, ap, subst, ◌∙◌, inl, inr}
-use Rattle.std.proofs.lemmas.Bool.{false≢true, eqb-true}
-use Rattle.rc_edges.specs.Values.{Values, values_cmp, values_eq}
-use Rattle.std.specs.Option.{option_and_then}
-use Rattle.rc_edges.specs.EdgeMap.{Counted, HasWidth, Rows, present, written}
-use Rattle.rc_spec.specs.declared.items.EdgeKind.{EdgeKind}
 use Rattle.rc_spec.specs.declared.items.EdgeKind.TheVariants as kind
 use Rattle.rc_maps.specs.OrderedEdge.{has_one_column}
-use Rattle.rc_fragment.specs.Container.{Form, form_in, kept_in, now_in, takes, takes_one}
 use Rattle.rc_fragment.specs.declared.container.Container.TheVariants as container
-use Rattle.rc_fragment.specs.SourceTable.{IsSet, containers_of, width_for, width_of}
-use Rattle.rc_fragment.specs.Sources.{AreOfShape, AreSame, Becomes, Sources, form_of, sources_of, found_in, found_at, IsEmptied, IsSetAt, HaveForm}
-use Rattle.rc_fragment.specs.declared.container.Container.{Container}
-use Rattle.rc_fragment.specs.declared.edge_rows.EdgeRows.{EdgeRows}
-use Rattle.rc_fragment.specs.declared.shape.EdgeShape.{EdgeShape}
-use Rattle.rc_fragment.specs.declared.source_table.SourceTable.{SourceTable}
-use Rattle.rc_edges.specs.RowsLaws.{get-current, get-written}
 use Rattle.rc_edges.specs.ValuesLaws.{same_from_test as values_same, test_from_same as values_test}
 
 -- ---- a container in the place of what the source had

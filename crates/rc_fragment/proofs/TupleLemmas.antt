@@ -1,20 +1,7 @@
 -- What is noted of a tuple is noted of its row.
 use Rattle.std.specs.Prelude.{◌≡◌, ℕ, pred, ◌-◌, List, Some, [], length, map}
-use Rattle.std.specs.List.{slice_get}
-use Rattle.std.specs.Option.{option_map_or}
+use Rattle.rc_fragment.proofs.Imports.{slice_get, option_map_or, Within, union, in_minus, Pairs, project, project-project, Values, edge_row, shapes, IsWithin, noted_extra, place_of, IsParted, extra_columns, values_at, EdgeRows, NotedRow, EdgeShape}
 use Rattle.std.proofs.Common.{sym, ap, ◌∙◌, arith}
-use Rattle.rc_tuple.specs.ColSet.{Within, union}
-use Rattle.rc_tuple.specs.ColSetLaws.{in_minus}
-use Rattle.rc_tuple.specs.Tuple.{Pairs, project}
-use Rattle.rc_tuple.specs.TupleLaws.{project-project}
-use Rattle.rc_edges.specs.Values.{Values}
-use Rattle.rc_fragment.specs.Fragment.{edge_row}
-use Rattle.rc_fragment.specs.Listing.{shapes}
-use Rattle.rc_fragment.specs.Notes.{IsWithin, noted_extra, place_of}
-use Rattle.rc_fragment.specs.RowValues.{IsParted, extra_columns, values_at}
-use Rattle.rc_fragment.specs.declared.edge_rows.EdgeRows.{EdgeRows}
-use Rattle.rc_fragment.specs.declared.note.NotedRow.{NotedRow}
-use Rattle.rc_fragment.specs.declared.shape.EdgeShape.{EdgeShape}
 use Rattle.rc_fragment.proofs.NotedLemmas.{IsNoteOf}
 use Rattle.rc_fragment.proofs.RowLemmas.{shape_there}
 

@@ -1,16 +1,7 @@
 -- Changes undone, from the last on.
 use Rattle.std.specs.Prelude.{◌≡◌, ℕ, ◌<◌, Bool, true, false, cond, List, [], ◌∷◌, ◌++◌, ◌⊎◌, ◌==◌, length}
 use Rattle.std.proofs.Common.{refl, sym, ap, subst, ◌∙◌, inl, inr}
-use Rattle.rc_tuple.specs.RisingSet.{In}
-use Rattle.std.proofs.lemmas.Bool.{and_parts, eqb-true}
-use Rattle.rc_tuple.specs.Tuple.{Pairs, tuple_eq}
-use Rattle.rc_tuple.specs.TupleLaws.{same_from_test}
-use Rattle.rc_spec.specs.CountedRows.{count_at, is_row_at, with_count}
-use Rattle.rc_spec.specs.CountedRowsLaws.{AreCountedRows, AreCountedRows-with_count, count-with_count, in_with_count, same_counts}
-use Rattle.rc_spec.specs.Fragments.{EdgeRow}
-use Rattle.rc_fragment.specs.Fragment.{AreAlone, AreRowsOf, HasAlone, HasColumns, IsThere}
-use Rattle.rc_fragment.specs.Notes.{set_back, undone}
-use Rattle.rc_fragment.specs.declared.shape.EdgeShape.{EdgeShape}
+use Rattle.rc_fragment.proofs.Imports.{In, and_parts, eqb-true, Pairs, tuple_eq, same_from_test, count_at, is_row_at, with_count, AreCountedRows, AreCountedRows-with_count, count-with_count, in_with_count, same_counts, EdgeRow, AreAlone, AreRowsOf, HasAlone, HasColumns, IsThere, set_back, undone, EdgeShape}
 
 pub undone-last : (changes : List EdgeRow) (w : EdgeRow) (rows : List EdgeRow) → undone (changes ++ w ∷ []) rows ≡ undone changes (set_back w rows)
 undone-last [] w rows = refl

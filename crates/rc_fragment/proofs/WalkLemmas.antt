@@ -1,32 +1,8 @@
 -- The rows of an edge, as a walk over its containers gathers them.
 use Rattle.std.specs.Prelude.{◌≡◌, ℕ, ◌+◌, ◌<◌, ◌≤◌, ◌++◌, zero, suc, Option, None, Some, List, [], ◌∷◌, map, length}
-use Rattle.std.specs.List.{flat_map}
+use Rattle.rc_fragment.proofs.Imports.{flat_map, find, get-from_entries, keys_of, append_assoc, drop_more, length-append, IsDistinct-tail, drop-append_seam, take-append_seam, In, get_or_in, in_flat_map, flat_map_in, in_map, map_in, Pairs, Values, values_cmp, values_eq, Counted, HasWidth, Rows, values_order, entries_of, has_one_column, AreApart, by_one, pair_of, Keyed, HashTable, One, Many, now_in, rows_with, IsFiled, HasValues, IsParted, extra_columns, row_from, extra_set, extra_within, length_values, Sources, found_in, sources_of, IsStoredRow, Container, EdgeRows, EdgeShape}
 use Rattle.std.specs.FinMap as fin
-use Rattle.std.specs.FinMap.{find, get-from_entries}
 use Rattle.std.proofs.Common.{refl, sym, ap, subst, ◌∙◌, arith, take, drop, get_or}
-use Rattle.std.specs.Map.{keys_of}
-use Rattle.std.proofs.lemmas.List.{append_assoc, drop_more, length-append}
-use Rattle.std.proofs.lemmas.Map.Keys.{IsDistinct-tail}
-use Rattle.std.proofs.Math.Seq.{drop-append_seam, take-append_seam}
-use Rattle.rc_tuple.specs.RisingSet.{In}
-use Rattle.rc_tuple.specs.RisingSetLaws.{get_or_in, in_flat_map, flat_map_in, in_map, map_in}
-use Rattle.rc_tuple.specs.Tuple.{Pairs}
-use Rattle.rc_edges.specs.Values.{Values, values_cmp, values_eq}
-use Rattle.rc_edges.specs.EdgeMap.{Counted, HasWidth, Rows}
-use Rattle.rc_edges.specs.ValuesLaws.{values_order}
-use Rattle.rc_maps.specs.HashTable.{entries_of, has_one_column}
-use Rattle.rc_maps.specs.Keyed.{AreApart, by_one, pair_of}
-use Rattle.rc_maps.specs.declared.keyed.Keyed.{Keyed}
-use Rattle.rc_maps.specs.declared.hash_table.HashTable.{HashTable}
-use Rattle.rc_maps.specs.declared.hash_table.HashTable.TheVariants.{One, Many}
-use Rattle.rc_fragment.specs.Container.{now_in}
-use Rattle.rc_fragment.specs.Listing.{rows_with, IsFiled}
-use Rattle.rc_fragment.specs.RowValues.{HasValues, IsParted, extra_columns, row_from}
-use Rattle.rc_fragment.specs.RowValuesLaws.{extra_set, extra_within, length_values}
-use Rattle.rc_fragment.specs.Sources.{Sources, found_in, sources_of, IsStoredRow}
-use Rattle.rc_fragment.specs.declared.container.Container.{Container}
-use Rattle.rc_fragment.specs.declared.edge_rows.EdgeRows.{EdgeRows}
-use Rattle.rc_fragment.specs.declared.shape.EdgeShape.{EdgeShape}
 use Rattle.rc_fragment.proofs.ListingLemmas.{entry_get, find_in, get_entry, in_find_apart}
 
 -- the rows now of a source's container

@@ -1,9 +1,5 @@
 -- What a container of one of the four kinds keeps.
-use Rattle.std.specs.Prelude.{Bool, false}
-use Rattle.rc_edges.specs.Values.{Values}
-use Rattle.rc_edges.specs.EdgeMap.{Rows, HasNoOther, HasWidth, current}
-use Rattle.rc_maps.specs.OrderedEdge.{has_one_column, rows_of}
-use Rattle.rc_spec.specs.declared.items.EdgeKind.{EdgeKind}
+use Rattle.rc_fragment.specs.Imports.{Bool, false, Values, Rows, HasNoOther, HasWidth, current, has_one_column, rows_of, EdgeKind}
 use Rattle.rc_spec.specs.declared.items.EdgeKind.TheVariants as kind
 use Rattle.rc_fragment.specs.declared.container.Container.{Container}
 use Rattle.rc_fragment.specs.declared.container.Container.TheVariants as container

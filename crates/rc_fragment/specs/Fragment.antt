@@ -1,19 +1,7 @@
 -- What a fragment's calls promise.
 use Rattle.std.specs.Prelude.{◌≡◌, ℕ, ◌<◌, ◌≤◌, ◌==◌, ◌&&◌, ◌++◌, Bool, true, false, cond, not, List, [], ◌∷◌, Option, None, Some, IsSome, length, map}
-use Rattle.std.specs.List.{find, flat_map, slice_get}
-use Rattle.std.specs.Option.{option_map_or}
-use Rattle.rc_tuple.specs.RisingSet.{In, IsRising}
-use Rattle.rc_tuple.specs.Tuple.{Pairs, cols_of, project}
-use Rattle.rc_edges.specs.Values.{Values, values_cmp, values_eq}
-use Rattle.rc_edges.specs.EdgeMap.{Counted}
-use Rattle.rc_spec.specs.CountedRowsLaws.{AreCountedRows}
-use Rattle.rc_spec.specs.Decomposition.{bound, edge_at}
-use Rattle.rc_spec.specs.Fragments.{EdgeRow, edge_numbers}
-use Rattle.rc_spec.specs.Placement.{class_of}
-use Rattle.rc_spec.specs.declared.items.Edge.{Edge}
-use Rattle.rc_spec.specs.declared.items.EdgeKind.{EdgeKind}
-use Rattle.rc_spec.specs.declared.items.EdgeKind.TheVariants.{Hash, Ordered, List as ListKind, Singleton}
-use Rattle.rc_spec.specs.declared.spec.Spec.{Spec}
+use Rattle.rc_fragment.specs.Imports.{find, flat_map, slice_get, option_map_or, In, IsRising, Pairs, cols_of, project, Values, values_cmp, values_eq, Counted, AreCountedRows, bound, edge_at, EdgeRow, edge_numbers, class_of, Edge, EdgeKind, Hash, Ordered, Singleton, Spec}
+use Rattle.rc_spec.specs.declared.items.EdgeKind.TheVariants.{List as ListKind}
 use Rattle.rc_fragment.specs.Container.{now_in}
 use Rattle.rc_fragment.specs.FragmentRows.{FragmentRows}
 use Rattle.rc_fragment.specs.Listing.{AreStored, listing, shapes}

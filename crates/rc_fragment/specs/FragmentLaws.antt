@@ -1,23 +1,11 @@
 -- The shapes of an accepted specification's edges.
 use Rattle.std.specs.Prelude.{◌≡◌, ℕ, zero, suc, ◌+◌, ◌<◌, ◌≤◌, ◌==◌, ◌&&◌, Bool, true, false, cond, not, List, [], ◌∷◌, None, Some, length, map}
-use Rattle.std.specs.List.{find, range_with_len, slice_get}
+use Rattle.rc_fragment.specs.Imports.{find, range_with_len, slice_get, In, get_or_in, IsColSet, in_range_bounds, union_left, union_right, values_eq, IsSealed, KeepsA3, bound, edge_at, no_edge, no_node, node_at, edge_numbers, IsEdgeAmong, class_of, Spec}
 use Rattle.std.proofs.Common.{refl, sym, ap, subst, ◌∙◌, inl, inr, arith}
 use Rattle.std.proofs.lemmas.Bool.{and_parts, eqb-true, false≢true}
 use Rattle.std.proofs.lemmas.List.FromFn.{length-map-range_with_len}
 use Rattle.std.proofs.lemmas.Option.{none-some}
-use Rattle.rc_tuple.specs.RisingSet.{In}
-use Rattle.rc_tuple.specs.RisingSetLaws.{get_or_in}
-use Rattle.rc_tuple.specs.ColSet.{IsColSet}
-use Rattle.rc_tuple.specs.ColSetLaws.{in_range_bounds, union_left, union_right}
-use Rattle.rc_edges.specs.Values.{values_eq}
 use Rattle.rc_edges.specs.ValuesLaws.{same_from_test}
-use Rattle.rc_spec.specs.Acceptance.{IsSealed}
-use Rattle.rc_spec.specs.Adequacy.{KeepsA3}
-use Rattle.rc_spec.specs.Decomposition.{bound, edge_at, no_edge, no_node, node_at}
-use Rattle.rc_spec.specs.Fragments.{edge_numbers}
-use Rattle.rc_spec.specs.InRange.{IsEdgeAmong}
-use Rattle.rc_spec.specs.Placement.{class_of}
-use Rattle.rc_spec.specs.declared.spec.Spec.{Spec}
 use Rattle.rc_fragment.specs.Fragment.{HasShape, edge_table, is_below, is_hash, lower_of, may_be_implied, shape_of}
 use Rattle.rc_fragment.specs.ImpliedTables.{IsLowerOf, IsTable}
 use Rattle.rc_fragment.specs.RowValues.{IsParted}

@@ -1,16 +1,6 @@
 -- What a holder lends a plan: the stripes that it holds, with their rows, and what it offers of the others. (PLDI 2012, two-phase plans over striped locks.)
 use Rattle.std.specs.Prelude.{◌≡◌, ℕ, max, ◌+◌, ◌-◌, ◌<◌, ◌≤◌, ◌^◌, ◌++◌, List, [], ◌∷◌, ◌⊎◌, Option, None, Some, IsSome, Result, Ok, Err, map, length, get_or, cond, ◌==◌}
-use Rattle.rc_tuple.specs.RisingSet.{In}
-use Rattle.rc_tuple.specs.Tuple.{Pairs, cols_of, project}
-use Rattle.rc_tuple.specs.Relation.{IsRelation, Satisfies}
-use Rattle.rc_spec.specs.Calls.{all_columns}
-use Rattle.rc_spec.specs.Decomposition.{bound, edge_at}
-use Rattle.rc_spec.specs.Fragments.{EdgeRow, row_stripe, fragment_of}
-use Rattle.rc_spec.specs.declared.items.EdgeKind.TheVariants.{Singleton}
-use Rattle.rc_spec.specs.Locks.{StripeLock, Suffices}
-use Rattle.rc_spec.specs.declared.lock.Mode.{Mode}
-use Rattle.rc_spec.specs.declared.lock.Mode.TheVariants.{Exclusive}
-use Rattle.rc_spec.specs.declared.spec.Spec.{Spec}
+use Rattle.rc_fragment.specs.Imports.{In, Pairs, cols_of, project, IsRelation, Satisfies, all_columns, bound, edge_at, EdgeRow, row_stripe, fragment_of, Singleton, StripeLock, Suffices, Mode, Exclusive, Spec}
 use Rattle.rc_fragment.specs.Fragment.{HasNoRowOf, HasRowOf}
 use Rattle.rc_fragment.specs.FragmentRows.{FragmentRows}
 use Rattle.rc_fragment.specs.Implied.{lowered_all, raised_all}

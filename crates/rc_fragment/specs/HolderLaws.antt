@@ -1,28 +1,8 @@
 -- What the fragments of one relation are to a reader of containers.
 use Rattle.std.specs.Prelude.{◌≡◌, ℕ, suc, ◌<◌, ◌≤◌, ◌^◌, Bool, true, false, cond, List, [], ◌∷◌, length, filter}
-use Rattle.std.specs.Ordering.{nat_cmp}
+use Rattle.rc_fragment.specs.Imports.{nat_cmp, In, IsRising, get_or_in, Within, union, in_union, union_left, union_right, rising_range, Pairs, cols_of, project, pair_cmp, tuple_eq, cols-project, project_by, project-project, test_from_same, IsRelation, Satisfies, rising_of, IsSealed, IsAdequate, KeepsA3, KeepsA4, KeepsA5, all_columns, how_many, holds_on, target_within, bound, node_at, no_node, edge_at, source_and_key, EdgeRow, fragment_of, edge_at_in, IsEdgeRow, in_all_rows, in_fragments, IsInRange, Singleton, Spec}
 use Rattle.std.proofs.Common.{refl, sym, ap, subst, ◌∙◌, inl, inr, arith}
 use Rattle.std.proofs.lemmas.Bool.{false≢true}
-use Rattle.rc_tuple.specs.RisingSet.{In, IsRising}
-use Rattle.rc_tuple.specs.RisingSetLaws.{get_or_in}
-use Rattle.rc_tuple.specs.ColSet.{Within, union}
-use Rattle.rc_tuple.specs.ColSetLaws.{in_union, union_left, union_right, rising_range}
-use Rattle.rc_tuple.specs.Tuple.{Pairs, cols_of, project, pair_cmp, tuple_eq}
-use Rattle.rc_tuple.specs.TupleLaws.{cols-project, project_by, project-project, test_from_same}
-use Rattle.rc_tuple.specs.Relation.{IsRelation, Satisfies}
-use Rattle.rc_tuple.specs.RelationLaws.{rising_of}
-use Rattle.rc_spec.specs.Acceptance.{IsSealed}
-use Rattle.rc_spec.specs.Adequacy.{IsAdequate, KeepsA3, KeepsA4, KeepsA5}
-use Rattle.rc_spec.specs.Calls.{all_columns}
-use Rattle.rc_spec.specs.Contents.{how_many}
-use Rattle.rc_spec.specs.ContentsLaws.{holds_on, target_within}
-use Rattle.rc_spec.specs.Decomposition.{bound, node_at, no_node, edge_at, source_and_key}
-use Rattle.rc_spec.specs.Fragments.{EdgeRow, fragment_of}
-use Rattle.rc_spec.specs.DecompositionLaws.{edge_at_in}
-use Rattle.rc_spec.specs.FragmentsLaws.{IsEdgeRow, in_all_rows, in_fragments}
-use Rattle.rc_spec.specs.InRange.{IsInRange}
-use Rattle.rc_spec.specs.declared.items.EdgeKind.TheVariants.{Singleton}
-use Rattle.rc_spec.specs.declared.spec.Spec.{Spec}
 use Rattle.rc_fragment.specs.Holder.{HeldStripe, AreGoodRows, AreOfRelation, AreReadable}
 
 -- the fragments of one relation are good, and keyed over all stripes

@@ -1,9 +1,7 @@
 -- What calls leave of the stripes that a holder tells, and one call after another.
 use Rattle.std.specs.Prelude.{◌≡◌, ℕ, ◌-◌, ◌==◌, ◌++◌, Bool, true, false, cond, IsSome, List, [], ◌∷◌, map}
 use Rattle.std.proofs.Common.{refl, sym, ap, subst, ◌∙◌, inl, inr, arith}
-use Rattle.rc_tuple.specs.Tuple.{Pairs}
-use Rattle.rc_spec.specs.Fragments.{EdgeRow}
-use Rattle.rc_spec.specs.declared.lock.Mode.{Mode}
+use Rattle.rc_fragment.specs.Imports.{Pairs, EdgeRow, Mode}
 use Rattle.rc_fragment.specs.Holder.{AreRefusedAfter, GoesOn, HasRisen, HasTaken, HeldStripe, Holding, IsPartlyAddedAt, LentStripe, all_reverted, changed_at, held_of, just_taken, lent_reverted, reverted, with_changes, with_changes_at, with_now, with_room, with_room_at}
 
 -- ---- the stripes held after a call

@@ -1,9 +1,6 @@
 -- Rows that need not be kept: those of an edge whose targets are the sources of another edge's rows. The other edge's rows tell them.
 use Rattle.std.specs.Prelude.{◌≡◌, Bool, ℕ, ◌+◌, ◌==◌, ◌&&◌, List, [], ◌∷◌, ◌++◌, cond, filter, map, not}
-use Rattle.rc_tuple.specs.RisingSet.{In, gather}
-use Rattle.rc_tuple.specs.Tuple.{Pairs, project, tuple_eq}
-use Rattle.rc_spec.specs.CountedRows.{is_row_at, lowered, raised}
-use Rattle.rc_spec.specs.Fragments.{EdgeRow, edge_row_cmp, tuples_of_edge}
+use Rattle.rc_fragment.specs.Imports.{In, gather, Pairs, project, tuple_eq, is_row_at, lowered, raised, EdgeRow, edge_row_cmp, tuples_of_edge}
 
 -- an edge, the one whose rows tell its rows, and the columns of its target
 pub record Implied : Type 0 where

@@ -1,18 +1,8 @@
 -- Laws of implied rows: they are counted, and what a change of a row does to them.
 use Rattle.std.specs.Prelude.{◌≡◌, ℕ, zero, suc, pred, ◌+◌, ◌-◌, ◌<◌, ◌==◌, ◌&&◌, Bool, true, false, List, [], ◌∷◌, ◌++◌, ◌⊎◌, cond, filter, map, not}
-use Rattle.std.specs.declared.cmp.Ordering.{Ordering}
-use Rattle.std.specs.declared.cmp.Ordering.TheVariants.{Less, Equal, Greater}
-use Rattle.std.specs.Ordering.{match_ordering}
+use Rattle.rc_fragment.specs.Imports.{Ordering, Less, Equal, Greater, match_ordering, In, put, not_below_itself, same_rising, rising_filter, rising_gather, in_gather, gather_in, in_filter, filter_in, in_map, map_in, in_append, append_in_left, append_in_right, Pairs, project, tuple_eq, same_from_test, test_from_same, is_row_at, count_at, with_count, raised, lowered, AreCountedRows, AreCountedRows-with_count, in_count, count_none, same_counts, count-with_count, EdgeRow, edge_row_cmp, tuples_of_edge, edge_row_order, in_tuples_of_edge, tuples_of_edge_in}
 use Rattle.std.proofs.Common.{inl, inr, refl, sym, ap, subst, ◌∙◌, arith}
 use Rattle.std.proofs.lemmas.Bool.{false≢true, eqb-true, eq-eqb, and_parts, and_from, not_from_false, not-true}
-use Rattle.rc_tuple.specs.RisingSet.{In, put}
-use Rattle.rc_tuple.specs.RisingSetLaws.{not_below_itself, same_rising, rising_filter, rising_gather, in_gather, gather_in, in_filter, filter_in, in_map, map_in, in_append, append_in_left, append_in_right}
-use Rattle.rc_tuple.specs.Tuple.{Pairs, project, tuple_eq}
-use Rattle.rc_tuple.specs.TupleLaws.{same_from_test, test_from_same}
-use Rattle.rc_spec.specs.CountedRows.{is_row_at, count_at, with_count, raised, lowered}
-use Rattle.rc_spec.specs.CountedRowsLaws.{AreCountedRows, AreCountedRows-with_count, in_count, count_none, same_counts, count-with_count}
-use Rattle.rc_spec.specs.Fragments.{EdgeRow, edge_row_cmp, tuples_of_edge}
-use Rattle.rc_spec.specs.FragmentsLaws.{edge_row_order, in_tuples_of_edge, tuples_of_edge_in}
 use Rattle.rc_fragment.specs.Implied.{Implied, AreImplications, NumberedRow, hits, implied_rows, is_under, lowered_all, raised_all, share, total, unders, with_all, with_implied}
 
 -- a row of the lower edge that projects on the tuple
@@ -245,8 +235,6 @@ total-lowered i t e row ws a l =
     go b x zero y l q = absurd (omega arith)
     go true x (suc c) y l q = omega arith
     go false x (suc c) y l q = omega arith
-
--- ---- changes of rows and of those that they imply
 
 -- ---- all that is implied
 

@@ -1,10 +1,6 @@
 -- What is read of an edge whose rows another tells: the sources of the other's rows.
 use Rattle.std.specs.Prelude.{◌≡◌, ℕ, ◌++◌, List, map}
-use Rattle.std.specs.List.{flat_map, zip}
-use Rattle.rc_tuple.specs.RisingSet.{In, IsRising}
-use Rattle.rc_tuple.specs.Tuple.{Pairs}
-use Rattle.rc_edges.specs.Values.{Values, values_cmp}
-use Rattle.rc_spec.specs.Fragments.{EdgeRow}
+use Rattle.rc_fragment.specs.Imports.{flat_map, zip, In, IsRising, Pairs, Values, values_cmp, EdgeRow}
 use Rattle.rc_fragment.specs.Fragment.{IsThere}
 use Rattle.rc_fragment.specs.RowValues.{values_at}
 use Rattle.rc_fragment.specs.declared.shape.EdgeShape.{EdgeShape}

@@ -1,18 +1,8 @@
 -- Laws of reading: rows that are kept are read as they are, and of an edge whose rows another tells the other's sources are read.
 use Rattle.std.specs.Prelude.{◌≡◌, ℕ, ◌<◌, ◌++◌, List, [], ◌∷◌, ◌⊎◌, Option, None, Some, length, map}
-use Rattle.std.specs.List.{flat_map, slice_get, zip}
+use Rattle.rc_fragment.specs.Imports.{flat_map, slice_get, zip, In, IsRising, in_map, map_in, Within, union, in_minus, union_right, Pairs, cols_of, project, cols-project, project-project, Values, values_cmp, count_at, AreCountedRows, in_count, EdgeRow}
 use Rattle.std.proofs.Common.{inl, inr, refl, sym, ap, subst, ◌∙◌}
 use Rattle.std.proofs.lemmas.Option.{slice_get_within}
-use Rattle.rc_tuple.specs.RisingSet.{In, IsRising}
-use Rattle.rc_tuple.specs.RisingSetLaws.{in_map, map_in}
-use Rattle.rc_tuple.specs.ColSet.{Within, union}
-use Rattle.rc_tuple.specs.ColSetLaws.{in_minus, union_right}
-use Rattle.rc_tuple.specs.Tuple.{Pairs, cols_of, project}
-use Rattle.rc_tuple.specs.TupleLaws.{cols-project, project-project}
-use Rattle.rc_edges.specs.Values.{Values, values_cmp}
-use Rattle.rc_spec.specs.CountedRows.{count_at}
-use Rattle.rc_spec.specs.CountedRowsLaws.{AreCountedRows, in_count}
-use Rattle.rc_spec.specs.Fragments.{EdgeRow}
 use Rattle.rc_fragment.specs.Fragment.{AreAllRows, AreRowsOf, HasColumns, HasScanned, HasShape, IsFoundAt, IsLookedUp, IsScan, IsThere, IsThereWith, key_and_extra}
 use Rattle.rc_fragment.specs.Implied.{Implied, total}
 use Rattle.rc_fragment.specs.ImpliedLaws.{AreCountedRows-with_all, count-other, count-upper, count_in, is_upper, total_below, total_some}

@@ -1,7 +1,6 @@
 -- What the edge table of a fragment says of edges whose rows others tell.
 use Rattle.std.specs.Prelude.{◌≡◌, ◌<◌, ◌^◌, ℕ, suc, ◌&&◌, ◌==◌, Bool, true, false, cond, List, [], ◌∷◌, ◌++◌, Option, None, Some, length}
-use Rattle.rc_tuple.specs.Tuple.{Pairs, project}
-use Rattle.rc_spec.specs.Fragments.{EdgeRow}
+use Rattle.rc_fragment.specs.Imports.{Pairs, project, EdgeRow}
 use Rattle.rc_fragment.specs.Fragment.{HasShape}
 use Rattle.rc_fragment.specs.Implied.{Implied, NumberedRow, with_all}
 use Rattle.rc_fragment.specs.RowValues.{IsParted}

@@ -1,15 +1,9 @@
 -- Laws of tables with edges whose rows others tell: a tuple's rows of a class are those that are kept, with those that they imply.
 use Rattle.std.specs.Prelude.{◌≡◌, ℕ, zero, suc, ◌+◌, ◌<◌, ◌&&◌, ◌==◌, Bool, true, false, cond, List, [], ◌∷◌, Option, None, Some}
-use Rattle.std.specs.List.{slice_get}
+use Rattle.rc_fragment.specs.Imports.{slice_get, In, in_append, append_in_left, append_in_right, Within, Pairs, project, tuple_eq, project-project, is_row_at}
 use Rattle.std.proofs.Common.{inl, inr, refl, sym, ap, subst, ◌∙◌, arith}
 use Rattle.std.proofs.lemmas.Bool.{eqb-true, eq-eqb}
 use Rattle.std.proofs.lemmas.Option.{none-some}
-use Rattle.rc_tuple.specs.RisingSet.{In}
-use Rattle.rc_tuple.specs.RisingSetLaws.{in_append, append_in_left, append_in_right}
-use Rattle.rc_tuple.specs.ColSet.{Within}
-use Rattle.rc_tuple.specs.Tuple.{Pairs, project, tuple_eq}
-use Rattle.rc_tuple.specs.TupleLaws.{project-project}
-use Rattle.rc_spec.specs.CountedRows.{is_row_at}
 use Rattle.rc_fragment.specs.Fragment.{HasShape}
 use Rattle.rc_fragment.specs.Implied.{AreImplications, Implied, hits, is_under, unders}
 use Rattle.rc_fragment.specs.ImpliedLaws.{IsWhole}

@@ -1,7 +1,6 @@
 -- What is seen of a fragment that lies in a slot. (PLDI 2012, shared locks.)
 use Rattle.std.specs.Prelude.{◌≡◌, List}
-use Rattle.std.specs.Arc.{arc_value}
-use Rattle.rc_spec.specs.Fragments.{EdgeRow}
+use Rattle.rc_fragment.specs.Imports.{arc_value, EdgeRow}
 use Rattle.rc_fragment.specs.FragmentRows.{FragmentRows}
 use Rattle.rc_fragment.specs.declared.keep.Keep.TheInside.{Inside}
 use Rattle.rc_fragment.specs.declared.keep.Ownership.{Ownership}

@@ -21,3 +21,4 @@ pub mod SourceTable
 pub mod Sources
 pub mod Tuples
 pub mod TuplesLaws
+pub mod Imports

@@ -1,13 +1,7 @@
 -- The rows that a fragment's edges keep, as one rising list of (edge, tuple, count).
 use Rattle.std.specs.Prelude.{◌≡◌, ℕ, suc, ◌<◌, List, [], ◌∷◌, ◌++◌, Option, None, Some, map}
-use Rattle.std.specs.List.{flat_map, slice_get}
-use Rattle.std.specs.Option.{option_map}
+use Rattle.rc_fragment.specs.Imports.{flat_map, slice_get, option_map, In, gather, Pairs, Values, Counted, Rows, EdgeRow, edge_row_cmp}
 use Rattle.std.specs.FinMap as fin
-use Rattle.rc_tuple.specs.RisingSet.{In, gather}
-use Rattle.rc_tuple.specs.Tuple.{Pairs}
-use Rattle.rc_edges.specs.Values.{Values}
-use Rattle.rc_edges.specs.EdgeMap.{Counted, Rows}
-use Rattle.rc_spec.specs.Fragments.{EdgeRow, edge_row_cmp}
 use Rattle.rc_fragment.specs.Container.{now_in}
 use Rattle.rc_fragment.specs.RowValues.{HasValues, IsParted, row_from}
 use Rattle.rc_fragment.specs.Sources.{sources_of, found_at, kept_at, AreOfShape}

@@ -1,14 +1,7 @@
 -- Notes of changes, by which they are undone, and for how many there is room.
 use Rattle.std.specs.Prelude.{◌≡◌, ℕ, ◌-◌, ◌/◌, ◌≤◌, ◌==◌, ◌&&◌, Bool, true, false, cond, List, [], ◌∷◌, Option, None, Some, IsSome, map, min, take, drop}
-use Rattle.std.specs.List.{slice_get}
-use Rattle.std.specs.Option.{option_and_then}
-use Rattle.std.specs.Vec.{vec_len, vec_capacity}
+use Rattle.rc_fragment.specs.Imports.{slice_get, option_and_then, vec_len, vec_capacity, Pairs, Values, values_eq, Counted, HasExtra, present, with_count, EdgeRow}
 use Rattle.std.proofs.Common.{Vec, Global}
-use Rattle.rc_tuple.specs.Tuple.{Pairs}
-use Rattle.rc_edges.specs.Values.{Values, values_eq}
-use Rattle.rc_edges.specs.EdgeMap.{Counted, HasExtra, present}
-use Rattle.rc_spec.specs.CountedRows.{with_count}
-use Rattle.rc_spec.specs.Fragments.{EdgeRow}
 use Rattle.rc_fragment.specs.Container.{kept_in, now_in}
 use Rattle.rc_fragment.specs.Listing.{found_by, listing, shapes, AreStored}
 use Rattle.rc_fragment.specs.RowValues.{HasValues, row_from}

@@ -1,9 +1,6 @@
 -- A row by its values: those at the columns of its edge's source, of its key, and of the target's other columns.
 use Rattle.std.specs.Prelude.{◌≡◌, ℕ, List, length, map}
-use Rattle.std.specs.List.{zip}
-use Rattle.rc_tuple.specs.RisingSet.{In}
-use Rattle.rc_tuple.specs.ColSet.{IsColSet, Within, union, minus}
-use Rattle.rc_tuple.specs.Tuple.{Pairs, cols_of, project, merge}
+use Rattle.rc_fragment.specs.Imports.{zip, In, IsColSet, Within, union, minus, Pairs, cols_of, project, merge}
 use Rattle.rc_fragment.specs.declared.shape.EdgeShape.{EdgeShape}
 
 -- the values at those of the columns that the tuple has, in column order

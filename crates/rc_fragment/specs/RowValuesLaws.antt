@@ -1,16 +1,8 @@
 -- A row over its edge's columns is determined by its values at source, key and the extra columns.
 use Rattle.std.specs.Prelude.{◌≡◌, ℕ, suc, List, [], ◌∷◌, map, length}
-use Rattle.std.specs.List.{zip}
-use Rattle.std.specs.Ordering.{nat_cmp}
+use Rattle.rc_fragment.specs.Imports.{zip, nat_cmp, In, IsRising, gather-rising, rising_filter, in_has, has_in, IsColSet, Within, has, union, union_left, union_right, in_minus, minus_in, IsColSet-filter, Pairs, cols_of, project, merge, pair_cmp, pair_order, cols-project, rising_cols, project_all, merge-merge}
 use Rattle.std.proofs.Common.{refl, sym, ap, subst, ◌∙◌, inl, inr}
 use Rattle.std.proofs.lemmas.Bool.{false≢true, cases_Bool}
-use Rattle.rc_tuple.specs.RisingSet.{In, IsRising}
-use Rattle.rc_tuple.specs.RisingSetLaws.{gather-rising, rising_filter, in_has, has_in}
-use Rattle.rc_tuple.specs.ColSet.{IsColSet, Within, has, union}
-use Rattle.rc_tuple.specs.ColSetLaws.{union_left, union_right, in_minus, minus_in, IsColSet-filter}
-use Rattle.rc_tuple.specs.Tuple.{Pairs, cols_of, project, merge, pair_cmp}
-use Rattle.rc_tuple.specs.TupleLaws.{pair_order, cols-project, rising_cols}
-use Rattle.rc_tuple.specs.MergeLaws.{project_all, merge-merge}
 use Rattle.rc_fragment.specs.RowValues.{values_at, extra_columns, row_from, HasValues, IsParted}
 use Rattle.rc_fragment.specs.declared.shape.EdgeShape.{EdgeShape}
 

@@ -1,12 +1,8 @@
 -- What a table of an edge's containers keeps.
 use Rattle.std.specs.Prelude.{◌≡◌, ◌==◌, ℕ, Bool, cond, Option, None, Some, []}
-use Rattle.std.specs.Borrow.{LendsSo, MutBor, Fml}
-use Rattle.std.specs.Option.{OnSome}
+use Rattle.rc_fragment.specs.Imports.{LendsSo, MutBor, Fml, OnSome, FinMap, Values, values_cmp, written, entries_of}
 use Rattle.std.specs.FinMap as fin
-use Rattle.std.specs.FinMap.{FinMap}
-use Rattle.rc_edges.specs.Values.{Values, values_cmp}
-use Rattle.rc_edges.specs.EdgeMap.{written}
-use Rattle.rc_maps.specs.HashTable.{entries_of, has_one_column}
+use Rattle.rc_maps.specs.HashTable.{has_one_column}
 use Rattle.rc_fragment.specs.contracts.container.Container.{the_row as container_row}
 use Rattle.rc_fragment.specs.contracts.source_table.SourceTable.{the_row}
 use Rattle.rc_fragment.specs.declared.container.Container.{Container}

@@ -1,15 +1,7 @@
 -- The rows of one edge, kept by the values of their source and then by those of their key.
 use Rattle.std.specs.Prelude.{◌≡◌, ◌<◌, ◌++◌, Bool, true, false, List, cond, ◌&&◌, ◌==◌, [], Option, None, Some, IsSome, filter, length, map, nat_lt}
-use Rattle.std.specs.List.{flat_map}
-use Rattle.std.specs.Option.{option_map}
+use Rattle.rc_fragment.specs.Imports.{flat_map, option_map, FinMap, In, IsRising, Pairs, Values, values_cmp, values_eq, Counted, Rows, listed, Keyed, Singleton}
 use Rattle.std.specs.FinMap as fin
-use Rattle.std.specs.FinMap.{FinMap}
-use Rattle.rc_tuple.specs.RisingSet.{In, IsRising}
-use Rattle.rc_tuple.specs.Tuple.{Pairs}
-use Rattle.rc_edges.specs.Values.{Values, values_cmp, values_eq}
-use Rattle.rc_edges.specs.EdgeMap.{Counted, Rows, listed}
-use Rattle.rc_maps.specs.declared.keyed.Keyed.{Keyed}
-use Rattle.rc_spec.specs.declared.items.EdgeKind.TheVariants.{Singleton}
 use Rattle.rc_fragment.specs.Container.{Form, kept_in, now_in, form_in, takes_one}
 use Rattle.rc_fragment.specs.RowValues.{row_from}
 use Rattle.rc_fragment.specs.SourceTable.{containers_of, width_for, width_of}

@@ -1,8 +1,6 @@
 -- What is seen of a fragment that keeps no row which another edge's rows tell, and what is done with a tuple's rows of a class.
 use Rattle.std.specs.Prelude.{◌≡◌, ℕ, ◌+◌, ◌-◌, ◌<◌, ◌≤◌, ◌^◌, ◌⊎◌, Bool, true, false, List, filter, length}
-use Rattle.rc_tuple.specs.Tuple.{Pairs}
-use Rattle.rc_spec.specs.CountedRows.{count_at, raised}
-use Rattle.rc_spec.specs.Fragments.{EdgeRow}
+use Rattle.rc_fragment.specs.Imports.{Pairs, count_at, raised, EdgeRow}
 use Rattle.rc_fragment.specs.Fragment.{HasAlone, HasColumns, HasNoRowOf, HasRowOf, HasShape, HasSingle, IsThere, edge_row}
 use Rattle.rc_fragment.specs.FragmentRows.{FragmentRows, changed}
 use Rattle.rc_fragment.specs.Implied.{lowered_all, raised_all}

@@ -1,18 +1,10 @@
 -- Laws of a tuple's rows: changed edge by edge, those that are kept come to those of all edges of the class.
 use Rattle.std.specs.Prelude.{◌≡◌, ℕ, zero, suc, pred, ◌+◌, ◌-◌, ◌<◌, ◌≤◌, ◌^◌, ◌==◌, ◌&&◌, ◌⊎◌, Bool, true, false, cond, List, [], ◌∷◌, ◌++◌, Option, None, Some, filter, length, take}
-use Rattle.std.specs.List.{slice_get}
-use Rattle.std.specs.Option.{option_map_or}
+use Rattle.rc_fragment.specs.Imports.{slice_get, option_map_or, Pairs, project, tuple_eq, Within, In, project-project, same_from_test, count_at, lowered, raised, AreCountedRows, EdgeRow}
 use Rattle.std.proofs.Common.{inl, inr, refl, sym, ap, subst, ◌∙◌, arith}
 use Rattle.std.proofs.lemmas.Bool.{and_parts, eqb-true, false≢true}
 use Rattle.std.proofs.lemmas.List.{append-nil, length-append, take_all}
 use Rattle.std.proofs.lemmas.Option.{none-some}
-use Rattle.rc_tuple.specs.Tuple.{Pairs, project, tuple_eq}
-use Rattle.rc_tuple.specs.ColSet.{Within}
-use Rattle.rc_tuple.specs.RisingSet.{In}
-use Rattle.rc_tuple.specs.TupleLaws.{project-project, same_from_test}
-use Rattle.rc_spec.specs.CountedRows.{count_at, lowered, raised}
-use Rattle.rc_spec.specs.CountedRowsLaws.{AreCountedRows}
-use Rattle.rc_spec.specs.Fragments.{EdgeRow}
 use Rattle.rc_fragment.specs.Fragment.{AreRowsOf, HasShape, IsThere, edge_row}
 use Rattle.rc_fragment.specs.FragmentRows.{FragmentRows, changed}
 use Rattle.rc_fragment.specs.Implied.{Implied, NumberedRow, hits, lowered_all, raised_all}

@@ -1,28 +1,8 @@
 -- A call of one shard reads and changes the tuples of that shard alone.
 use Rattle.std.proofs.Common.{◌≡◌, ℕ, ◌+◌, Bool, true, false, cond, not, ◌||◌, ◌==◌, List, [], ◌∷◌, Option, Some, None, refl, sym, ap, ◌∙◌, subst, inl, inr}
-use Rattle.std.specs.List.{filter, list_any, slice_get}
-use Rattle.std.specs.Ordering.{nat_cmp}
+use Rattle.rc_generate.specs.Imports.{filter, list_any, slice_get, nat_cmp, In, IsRising, put, gather, in_filter, filter-filter, nat_order, gather_in, rising_filter, slice_get_in, Pairs, cols_of, project, value, agree_on, matches, tuple_cmp, tuple_eq, same_from_test, tuple_order, value-project, Satisfies, breaks, breaks_pair, breaks_with, agree_from_test, breaks-put, test_from_satisfies, satisfies_fewer, Dep, Op, OpKind, Query, Insert, Remove, Update, Call, Present, Range, Spec, Fits, FitsAt, value_columns, Outcome, rows_of, at_most, first_broken_dependency, inserted_unless, without, removed_first, updated_unless, updated_first, plain_by, plain_at, plain, rising_after, in_ranges, is_asked}
 use Rattle.std.proofs.lemmas.Bool.{and_parts, false≢true, eq-eqb}
 use Rattle.std.proofs.lemmas.Map.Views.{any-filter_same}
-use Rattle.rc_tuple.specs.RisingSet.{In, IsRising, put, gather}
-use Rattle.rc_tuple.specs.RisingSetLaws.{in_filter, filter-filter, nat_order, gather_in, rising_filter, slice_get_in}
-use Rattle.rc_tuple.specs.Tuple.{Pairs, cols_of, project, value, agree_on, matches, tuple_cmp, tuple_eq}
-use Rattle.rc_tuple.specs.TupleLaws.{same_from_test, tuple_order}
-use Rattle.rc_tuple.specs.MergeLaws.{value-project}
-use Rattle.rc_tuple.specs.Relation.{Satisfies, breaks, breaks_pair, breaks_with}
-use Rattle.rc_tuple.specs.RelationLaws.{agree_from_test, breaks-put, test_from_satisfies, satisfies_fewer}
-use Rattle.rc_tuple.specs.declared.dep.Dep.{Dep}
-use Rattle.rc_spec.specs.declared.items.Op.{Op}
-use Rattle.rc_spec.specs.declared.items.OpKind.{OpKind}
-use Rattle.rc_spec.specs.declared.items.OpKind.TheVariants.{Query, Insert, Remove, Update}
-use Rattle.rc_spec.specs.declared.call.Call.{Call}
-use Rattle.rc_spec.specs.declared.call.Reply.TheVariants.{Present}
-use Rattle.rc_spec.specs.declared.range.Range.{Range}
-use Rattle.rc_spec.specs.declared.spec.Spec.{Spec}
-use Rattle.rc_spec.specs.Calls.{Fits, FitsAt, value_columns}
-use Rattle.rc_spec.specs.Plain.{Outcome, rows_of, at_most, first_broken_dependency, inserted_unless, without, removed_first, updated_unless, updated_first, plain_by, plain_at, plain}
-use Rattle.rc_spec.specs.PlainLaws.{rising_after}
-use Rattle.rc_spec.specs.Ranges.{in_ranges, is_asked}
 use Rattle.rc_generate.specs.Shards.{IsSharded, shard_of, tuples_in}
 use Rattle.rc_generate.specs.FilterLaws.{filter-swap, filter-put, filter-put_other}
 

@@ -1,12 +1,6 @@
 -- For any calls there is a legal history in which each pass makes those of its shard: what the laws ask can be met.
 use Rattle.std.proofs.Common.{◌≡◌, ℕ, ◌==◌, Bool, true, false, cond, List, [], ◌∷◌, map, refl, sym, ap, ◌∙◌, subst}
-use Rattle.rc_spec.specs.declared.call.Call.{Call}
-use Rattle.rc_spec.specs.declared.spec.Spec.{Spec}
-use Rattle.rc_rel.specs.declared.entry.Step.{Step}
-use Rattle.rc_rel.specs.declared.entry.Entry.{Entry}
-use Rattle.rc_rel.specs.History.{steps_of, AreLegalFrom, IsLegal, own}
-use Rattle.rc_work.specs.Made.{plain_steps}
-use Rattle.rc_work.specs.MadeLaws.{calls_of_plain, plain_are_legal}
+use Rattle.rc_generate.specs.Imports.{Call, Spec, Step, Entry, steps_of, AreLegalFrom, IsLegal, own, plain_steps, calls_of_plain, plain_are_legal}
 use Rattle.rc_generate.specs.Shards.{shard_of, calls_in, steps_in, MakesShards}
 use Rattle.rc_generate.specs.FilterLaws.{map-filter}
 

@@ -1,10 +1,7 @@
 -- Laws of filters over lists, and over rising lists with one more element.
 use Rattle.std.proofs.Common.{◌≡◌, Bool, true, false, cond, List, [], ◌∷◌, map, refl, sym, ap, ◌∙◌, subst, inl, inr}
-use Rattle.std.specs.List.{filter}
-use Rattle.std.specs.declared.cmp.Ordering.{Ordering}
+use Rattle.rc_generate.specs.Imports.{filter, Ordering, In, IsRising, put, IsOrder, in_put, put_new, put_old, rising_put, rising_filter, in_filter, filter_in, same_rising}
 use Rattle.std.proofs.lemmas.Bool.{false≢true}
-use Rattle.rc_tuple.specs.RisingSet.{In, IsRising, put}
-use Rattle.rc_tuple.specs.RisingSetLaws.{IsOrder, in_put, put_new, put_old, rising_put, rising_filter, in_filter, filter_in, same_rising}
 
 -- two filters commute
 pub filter-swap : {A : Type 0} (p q : A → Bool) (xs : List A) → filter p (filter q xs) ≡ filter q (filter p xs)

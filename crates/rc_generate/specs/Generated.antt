@@ -1,9 +1,6 @@
 -- The generated workload on the sample: calls by the numbers of a linear congruential generator, for four threads in turn.
 use Rattle.std.specs.Prelude.{ℕ, zero, suc, ◌+◌, ◌*◌, ◌/◌, ◌%◌, ◌^◌, List, [], ◌∷◌, map, nat_le, if◌then◌else◌}
-use Rattle.std.specs.List.{range_with_len}
-use Rattle.rc_spec.specs.declared.call.Call.{Call}
-use Rattle.rc_work.specs.declared.work.Turn.{Turn}
-use Rattle.rc_work.specs.declared.work.Work.{Work}
+use Rattle.rc_generate.specs.Imports.{range_with_len, Call, Turn, Work}
 
 -- the generator's step: a number of 31 bits from the one before
 abbrev pub next_number : ℕ → ℕ

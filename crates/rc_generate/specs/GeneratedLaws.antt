@@ -1,25 +1,10 @@
 -- Laws of the generated workload: its calls fit the sample, it keeps the limits, and every run is as if one thread had made its calls in order.
 use Rattle.std.proofs.Common.{◌≡◌, ℕ, ◌+◌, ◌*◌, ◌/◌, ◌%◌, ◌^◌, ◌<◌, ◌≤◌, Bool, true, false, cond, nat_le, List, [], ◌∷◌, length, map, refl, sym, ap, ◌∙◌, subst, arith}
-use Rattle.std.specs.Prelude.{sum_by}
-use Rattle.std.specs.List.{AllByRecursion, flat_map, range_with_len, zip}
+use Rattle.rc_generate.specs.Imports.{sum_by, AllByRecursion, flat_map, range_with_len, zip, in_map, in_each, each_in, IsColSet, rising_range, in_range_bounds, IsTuple, IsTuple-zip, Call, Fits, IsBounded, Entry, own, steps_of, replay, Turn, RoundsFit, HasThreads, HasSingleTurns, KeepsLimits, Runs}
 use Rattle.std.proofs.lemmas.List.{append-nil}
 use Rattle.std.proofs.lemmas.List.Sums.{sum_by-cons}
 use Rattle.std.proofs.lemmas.List.Elements.{All-nil}
 use Rattle.std.proofs.lemmas.List.FromFn.{length-map-range_with_len, length-range_with_len}
-use Rattle.rc_tuple.specs.RisingSetLaws.{in_map, in_each, each_in}
-use Rattle.rc_tuple.specs.ColSet.{IsColSet}
-use Rattle.rc_tuple.specs.ColSetLaws.{rising_range, in_range_bounds}
-use Rattle.rc_tuple.specs.Tuple.{IsTuple}
-use Rattle.rc_tuple.specs.TupleLaws.{IsTuple-zip}
-use Rattle.rc_spec.specs.declared.call.Call.{Call}
-use Rattle.rc_spec.specs.Calls.{Fits}
-use Rattle.rc_spec.specs.Ranges.{IsBounded}
-use Rattle.rc_rel.specs.declared.entry.Entry.{Entry}
-use Rattle.rc_rel.specs.History.{own, steps_of, replay}
-use Rattle.rc_work.specs.declared.work.Turn.{Turn}
-use Rattle.rc_work.specs.Fitting.{RoundsFit, HasThreads}
-use Rattle.rc_work.specs.Limits.{HasSingleTurns, KeepsLimits}
-use Rattle.rc_work.specs.Runs.{Runs}
 use Rattle.rc_generate.specs.Shards.{shard_of, IsAsOneThread}
 use Rattle.rc_generate.specs.Summary.{rows_in, counted, summary, one_thread_summary}
 use Rattle.rc_generate.specs.SummaryLaws.{summaries_are_one_threads, length_as_one_thread, rows_are_few}

@@ -17,3 +17,4 @@ pub mod GeneratedLaws
 pub mod SummaryText
 pub mod GeneratedExample
 pub mod UnkeyedExample
+pub mod Imports

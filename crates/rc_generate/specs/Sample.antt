@@ -1,9 +1,6 @@
 -- The sample: a directed graph with weights, decomposed by the source of an edge and then by its target.
 use Rattle.std.specs.Prelude.{[], ◌∷◌, codes}
-use Rattle.rc_spec.specs.declared.items.ColKind.TheVariants.{Num}
-use Rattle.rc_spec.specs.declared.items.EdgeKind.TheVariants.{Hash, Ordered, Singleton}
-use Rattle.rc_spec.specs.declared.items.OpKind.TheVariants.{Query, Insert, Remove}
-use Rattle.rc_spec.specs.declared.spec.Spec.{Spec}
+use Rattle.rc_generate.specs.Imports.{Num, Hash, Ordered, Singleton, Query, Insert, Remove, Spec}
 
 abbrev pub sample_graph : Spec
 sample_graph = record {

@@ -1,18 +1,6 @@
 -- The sample keeps all rules: it is adequate and well placed, and its operations keep their rules.
 use Rattle.std.proofs.Common.{◌≡◌, ℕ, ◌+◌, ◌<◌, ◌≤◌, List, [], ◌∷◌, length, true, refl, subst, inl, inr, arith}
-use Rattle.std.specs.List.{range_with_len, AllByRecursion}
-use Rattle.rc_tuple.specs.RisingSet.{In}
-use Rattle.rc_tuple.specs.RisingSetLaws.{each_in}
-use Rattle.rc_tuple.specs.ColSet.{is_within, inter}
-use Rattle.rc_tuple.specs.ColSetLaws.{in_range_below, within_from_test, inter_in}
-use Rattle.rc_tuple.specs.Relation.{Follows}
-use Rattle.rc_fd.specs.FollowsLaws.{follows_subset, follows_dependency, follows_union}
-use Rattle.rc_spec.specs.declared.items.Edge.{Edge}
-use Rattle.rc_spec.specs.declared.items.OpKind.TheVariants.{Query}
-use Rattle.rc_spec.specs.Decomposition.{bound, edge_at, source_and_key, IsWalk, IsCircle}
-use Rattle.rc_spec.specs.Adequacy.{IsRoot, KeepsA1, KeepsA3, KeepsA4, KeepsA5, KeepsA6, KeepsA7, IsAdequate}
-use Rattle.rc_spec.specs.Placement.{class_at, class_of, op_at, striping, KeepsP1, KeepsP2, KeepsP3, KeepsP4, KeepsP5, KeepsP6, IsPlaced, KeepsO, AreOuts}
-use Rattle.rc_spec.specs.Acceptance.{IsAccepted}
+use Rattle.rc_generate.specs.Imports.{range_with_len, AllByRecursion, In, each_in, is_within, inter, in_range_below, within_from_test, inter_in, Follows, follows_subset, follows_dependency, follows_union, Edge, Query, bound, edge_at, source_and_key, IsWalk, IsCircle, IsRoot, KeepsA1, KeepsA3, KeepsA4, KeepsA5, KeepsA6, KeepsA7, IsAdequate, class_at, class_of, op_at, striping, KeepsP1, KeepsP2, KeepsP3, KeepsP4, KeepsP5, KeepsP6, IsPlaced, KeepsO, AreOuts, IsAccepted}
 use Rattle.rc_generate.specs.Sample.{sample_graph}
 
 -- what holds of each of the first numbers

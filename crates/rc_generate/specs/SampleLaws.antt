@@ -1,15 +1,6 @@
 -- Laws of the sample: since it is what a text is read as, it is in range and well named; and the source of an edge shares its calls out.
 use Rattle.std.proofs.Common.{inl, refl, arith}
-use Rattle.rc_tuple.specs.RisingSet.{In}
-use Rattle.rc_tuple.specs.RisingSetLaws.{each_in}
-use Rattle.rc_tuple.specs.declared.dep.Dep.{Dep}
-use Rattle.rc_text.specs.Lines.{printed_lines}
-use Rattle.rc_spec.specs.declared.items.Op.{Op}
-use Rattle.rc_spec.specs.InRange.{IsInRange, HasColumnAndNode}
-use Rattle.rc_spec.specs.Names.{IsWellNamed}
-use Rattle.rc_reader.specs.ReadKeepsLaws.{text_keeps}
-use Rattle.rc_reader.specs.InRangeLaws.{in_range-keeps, in_range-empty}
-use Rattle.rc_reader.specs.WellNamedLaws.{well_named-keeps, well_named-empty}
+use Rattle.rc_generate.specs.Imports.{In, each_in, Dep, printed_lines, Op, IsInRange, HasColumnAndNode, IsWellNamed, text_keeps, in_range-keeps, in_range-empty, well_named-keeps, well_named-empty}
 use Rattle.rc_generate.specs.Shards.{IsSharded}
 use Rattle.rc_generate.specs.Sample.{sample_graph}
 use Rattle.rc_generate.specs.SampleText.{sample_lines, sample_is_read}

@@ -1,25 +1,8 @@
 -- Histories whose passes keep to their shards: each shard is by itself, and all are as if one thread made all calls in order.
 use Rattle.std.proofs.Common.{◌≡◌, ℕ, ◌==◌, Bool, true, false, cond, List, [], ◌∷◌, ◌++◌, map, IsPermutation, refl, sym, ap, ◌∙◌, subst}
-use Rattle.std.specs.List.{AllByRecursion}
+use Rattle.rc_generate.specs.Imports.{AllByRecursion, In, IsRising, in_filter, filter_in, flat_map_in, map_in, in_each, each_in, same_rising, Pairs, tuple_cmp, tuple_order, Satisfies, satisfies_none, Call, Spec, Fits, plain, plain_satisfies, Step, Entry, steps_of, AreLegalFrom, IsLegal, after_steps, replay, own, calls_of, StepsFit, AllFit, StepsFit-steps_of, plain_steps, calls_of_plain, legal_are_plain, plain_are_legal}
 use Rattle.std.proofs.lemmas.Bool.{eqb-true, eq-eqb}
 use Rattle.std.proofs.lemmas.List.Elements.{filter-append}
-use Rattle.rc_tuple.specs.RisingSet.{In, IsRising}
-use Rattle.rc_tuple.specs.RisingSetLaws.{in_filter, filter_in, flat_map_in, map_in, in_each, each_in, same_rising}
-use Rattle.rc_tuple.specs.Tuple.{Pairs, tuple_cmp}
-use Rattle.rc_tuple.specs.TupleLaws.{tuple_order}
-use Rattle.rc_tuple.specs.Relation.{Satisfies}
-use Rattle.rc_tuple.specs.RelationLaws.{satisfies_none}
-use Rattle.rc_spec.specs.declared.call.Call.{Call}
-use Rattle.rc_spec.specs.declared.spec.Spec.{Spec}
-use Rattle.rc_spec.specs.Calls.{Fits}
-use Rattle.rc_spec.specs.Plain.{plain}
-use Rattle.rc_spec.specs.PlainLaws.{plain_satisfies}
-use Rattle.rc_rel.specs.declared.entry.Step.{Step}
-use Rattle.rc_rel.specs.declared.entry.Entry.{Entry}
-use Rattle.rc_rel.specs.History.{steps_of, AreLegalFrom, IsLegal, after_steps, replay, own, calls_of, StepsFit, AllFit}
-use Rattle.rc_rel.specs.HistoryLaws.{StepsFit-steps_of}
-use Rattle.rc_work.specs.Made.{plain_steps}
-use Rattle.rc_work.specs.MadeLaws.{calls_of_plain, legal_are_plain, plain_are_legal}
 use Rattle.rc_generate.specs.Shards.{IsSharded, shard_of, tuples_in, calls_in, steps_in, KeepsShards, IsSharedOut, MakesShards, CallsFit, IsAsOneThread}
 use Rattle.rc_generate.specs.FilterLaws.{filter-every, filter-none, map-filter}
 use Rattle.rc_generate.specs.CallLaws.{has_key, own_reply, own_tuples, other_tuples, plain_rising}

@@ -1,17 +1,6 @@
 -- Shards: the tuples, calls and steps whose value at one column, the key, is shared out to one number.
 use Rattle.std.specs.Prelude.{◌≡◌, ℕ, ◌==◌, List, [], filter, IsPermutation}
-use Rattle.std.specs.List.{AllByRecursion}
-use Rattle.rc_tuple.specs.RisingSet.{In}
-use Rattle.rc_tuple.specs.Tuple.{Pairs, value}
-use Rattle.rc_tuple.specs.declared.dep.Dep.{Dep}
-use Rattle.rc_spec.specs.declared.items.Op.{Op}
-use Rattle.rc_spec.specs.declared.call.Call.{Call}
-use Rattle.rc_spec.specs.declared.spec.Spec.{Spec}
-use Rattle.rc_spec.specs.Calls.{Fits}
-use Rattle.rc_rel.specs.declared.entry.Step.{Step}
-use Rattle.rc_rel.specs.declared.entry.Entry.{Entry}
-use Rattle.rc_rel.specs.History.{steps_of, IsLegal, AllFit, after_steps, replay, own, calls_of}
-use Rattle.rc_work.specs.Made.{plain_steps}
+use Rattle.rc_generate.specs.Imports.{AllByRecursion, In, Pairs, value, Dep, Op, Call, Spec, Fits, Step, Entry, steps_of, IsLegal, AllFit, after_steps, replay, own, calls_of, plain_steps}
 
 -- each operation's pattern has the key column, and so has the left side of each dependency
 pub record IsSharded (spec : Spec) (key : ℕ) : Type 0 where

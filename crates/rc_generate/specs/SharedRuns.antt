@@ -1,8 +1,6 @@
 -- Workloads whose threads make calls of their own shards.
 use Rattle.std.specs.Prelude.{◌≡◌, ℕ, List}
-use Rattle.std.specs.List.{flat_map, AllByRecursion}
-use Rattle.rc_spec.specs.declared.call.Call.{Call}
-use Rattle.rc_work.specs.declared.work.Turn.{Turn}
+use Rattle.rc_generate.specs.Imports.{flat_map, AllByRecursion, Call, Turn}
 use Rattle.rc_generate.specs.Shards.{shard_of}
 
 -- all calls of some rounds, in written order

@@ -1,18 +1,7 @@
 -- Runs of workloads whose threads make calls of their own shards: each is as if one thread had made all calls in written order.
 use Rattle.std.proofs.Common.{◌≡◌, ℕ, ◌==◌, Bool, true, false, cond, List, [], ◌∷◌, ◌++◌, refl, sym, ap, ◌∙◌}
-use Rattle.std.specs.List.{filter, flat_map, AllByRecursion}
+use Rattle.rc_generate.specs.Imports.{filter, flat_map, AllByRecursion, In, each_in, Call, Spec, Entry, own, steps_of, Turn, Work, TurnsFit, RoundsFit, thread_calls, Runs, runs_make_calls}
 use Rattle.std.proofs.lemmas.List.Elements.{filter-append}
-use Rattle.rc_tuple.specs.RisingSet.{In}
-use Rattle.rc_tuple.specs.RisingSetLaws.{each_in}
-use Rattle.rc_spec.specs.declared.call.Call.{Call}
-use Rattle.rc_spec.specs.declared.spec.Spec.{Spec}
-use Rattle.rc_rel.specs.declared.entry.Entry.{Entry}
-use Rattle.rc_rel.specs.History.{own, steps_of}
-use Rattle.rc_work.specs.declared.work.Turn.{Turn}
-use Rattle.rc_work.specs.declared.work.Work.{Work}
-use Rattle.rc_work.specs.Fitting.{TurnsFit, RoundsFit}
-use Rattle.rc_work.specs.Runs.{thread_calls, Runs}
-use Rattle.rc_work.specs.RunsLaws.{runs_make_calls}
 use Rattle.rc_generate.specs.FilterLaws.{filter-every, filter-none}
 use Rattle.rc_generate.specs.Shards.{IsSharded, IsSharedOut, MakesShards, shard_of, calls_in, CallsFit, IsAsOneThread}
 use Rattle.rc_generate.specs.ShardLaws.{all_fit, keeps_shards, same_in_every_schedule, shards_are_as_one_thread}

@@ -1,15 +1,7 @@
 -- The summary of a history: how many replies there are of each kind, how many rows in them, and how many tuples at last.
 use Rattle.std.specs.Prelude.{ℕ, ◌+◌, ◌<◌, ◌^◌, List, [], length, sum_by}
-use Rattle.rc_tuple.specs.Tuple.{Pairs}
-use Rattle.rc_spec.specs.declared.call.Call.{Call}
-use Rattle.rc_spec.specs.declared.call.Reply.{Reply}
-use Rattle.rc_spec.specs.declared.call.Reply.TheVariants.{Rows, Many, Inserted, Present, Conflict, Removed, Updated, Absent}
-use Rattle.rc_spec.specs.declared.spec.Spec.{Spec}
-use Rattle.rc_rel.specs.declared.entry.Step.{Step}
-use Rattle.rc_rel.specs.declared.entry.Entry.{Entry}
-use Rattle.rc_rel.specs.History.{steps_of}
+use Rattle.rc_generate.specs.Imports.{Pairs, Call, Reply, Rows, Many, Inserted, Present, Conflict, Removed, Updated, Absent, Spec, Step, Entry, steps_of, plain_steps}
 use Rattle.rc_generate.specs.declared.summary.Summary.{Summary}
-use Rattle.rc_work.specs.Made.{plain_steps}
 use Rattle.rc_generate.specs.Shards.{after_calls}
 
 -- ---- what one reply counts for

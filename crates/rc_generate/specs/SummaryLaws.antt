@@ -1,31 +1,13 @@
 -- Laws of summaries: the order of the steps doesn't count, and how large the counts are.
 use Rattle.std.proofs.Common.{◌≡◌, ℕ, ◌+◌, ◌*◌, ◌≤◌, Bool, true, false, cond, nat_le, List, [], ◌∷◌, Option, Some, None, length, IsPermutation, refl, sym, ap, ◌∙◌, subst, arith}
-use Rattle.std.specs.List.{filter, list_any, slice_get}
+use Rattle.rc_generate.specs.Imports.{filter, list_any, slice_get, Dep, put, Pairs, agree_on, matches, tuple_cmp, Call, Reply, Rows, Many, Inserted, Present, Conflict, Removed, Updated, Absent, Op, OpKind, Query, Insert, Remove, Update, Range, Spec, Outcome, rows_of, first_broken_dependency, inserted_unless, without, removed_first, updated_unless, updated_first, plain_by, plain_at, plain, is_asked, Step, Entry, steps_of, IsLegal, AreLegalFrom, after_steps, replay, calls_of, plain_steps, legal_are_plain, calls_of_plain}
 use Rattle.std.proofs.lemmas.Bool.{leb-true}
 use Rattle.std.proofs.lemmas.List.Sorted.{sum_by-IsPermutation, length_permutation}
 use Rattle.std.proofs.lemmas.List.{length-map}
 use Rattle.std.proofs.lemmas.List.Sums.{sum_by-cons}
-use Rattle.rc_tuple.specs.declared.dep.Dep.{Dep}
-use Rattle.rc_tuple.specs.RisingSet.{put}
-use Rattle.rc_tuple.specs.Tuple.{Pairs, agree_on, matches, tuple_cmp}
-use Rattle.rc_spec.specs.declared.call.Call.{Call}
-use Rattle.rc_spec.specs.declared.call.Reply.{Reply}
-use Rattle.rc_spec.specs.declared.call.Reply.TheVariants.{Rows, Many, Inserted, Present, Conflict, Removed, Updated, Absent}
-use Rattle.rc_spec.specs.declared.items.Op.{Op}
-use Rattle.rc_spec.specs.declared.items.OpKind.{OpKind}
-use Rattle.rc_spec.specs.declared.items.OpKind.TheVariants.{Query, Insert, Remove, Update}
-use Rattle.rc_spec.specs.declared.range.Range.{Range}
-use Rattle.rc_spec.specs.declared.spec.Spec.{Spec}
-use Rattle.rc_spec.specs.Plain.{Outcome, rows_of, first_broken_dependency, inserted_unless, without, removed_first, updated_unless, updated_first, plain_by, plain_at, plain}
-use Rattle.rc_spec.specs.Ranges.{is_asked}
-use Rattle.rc_rel.specs.declared.entry.Step.{Step}
-use Rattle.rc_rel.specs.declared.entry.Entry.{Entry}
-use Rattle.rc_rel.specs.History.{steps_of, IsLegal, AreLegalFrom, after_steps, replay, calls_of}
 use Rattle.rc_generate.specs.declared.summary.Summary.{Summary}
-use Rattle.rc_work.specs.Made.{plain_steps}
 use Rattle.rc_generate.specs.Shards.{IsAsOneThread, after_calls}
 use Rattle.rc_generate.specs.Summary.{one_call, one_inserted, one_present, one_conflict, one_removed, one_updated, one_absent, one_query, rows_in, one_many, counted, summary_of, summary, one_thread_summary}
-use Rattle.rc_work.specs.MadeLaws.{legal_are_plain, calls_of_plain}
 
 same_counted : (count : Reply → ℕ) (xs ys : List Step) → IsPermutation xs ys → counted count xs ≡ counted count ys
 same_counted count xs ys p = sym (sum_by-IsPermutation (λ (s : Step). count s.reply) xs ys p)

@@ -1,7 +1,6 @@
 -- The text of a summary: a line for each count, and `end`.
 use Rattle.std.specs.Prelude.{ℕ, List, [], ◌∷◌, codes}
-use Rattle.rc_text.specs.Lines.{printed_lines}
-use Rattle.rc_work.specs.Report.{count_line}
+use Rattle.rc_generate.specs.Imports.{printed_lines, count_line}
 use Rattle.rc_generate.specs.declared.summary.Summary.{Summary}
 
 abbrev pub summary_lines : Summary → List (List ℕ)

@@ -1,9 +1,7 @@
 -- Where the left side of a dependency lacks the key column, replies depend on the schedule: here the second call has the conflict, whichever it is.
 use Rattle.std.specs.Prelude.{◌≡◌, [], ◌∷◌}
 use Rattle.std.proofs.Common.{refl}
-use Rattle.rc_spec.specs.declared.call.Reply.TheVariants.{Inserted, Conflict}
-use Rattle.rc_spec.specs.declared.spec.Spec.{Spec}
-use Rattle.rc_work.specs.Made.{plain_steps}
+use Rattle.rc_generate.specs.Imports.{Inserted, Conflict, Spec, plain_steps}
 use Rattle.rc_generate.specs.Sample.{sample_graph}
 use Rattle.rc_generate.specs.Generated.{insert_call}
 

@@ -1,16 +1,7 @@
 -- The set of nodes that are reached from a node.
 use Rattle.std.proofs.Common.{◌≡◌, ℕ, ◌+◌, ◌↔◌, true, List, ◌∷◌, ◌⊎◌, take, inl, inr, refl, sym, subst}
-use Rattle.std.specs.Ordering.{nat_cmp}
-use Rattle.rc_tuple.specs.RisingSet.{In}
-use Rattle.rc_tuple.specs.RisingSetLaws.{nat_order, in_put, put_new, put_old, in_has, has_in}
-use Rattle.rc_tuple.specs.ColSet.{has, is_within, union, with_column}
-use Rattle.rc_tuple.specs.ColSetLaws.{in_union, within_from_test}
-use Rattle.rc_spec.specs.declared.items.Edge.{Edge}
-use Rattle.rc_spec.specs.declared.spec.Spec.{Spec}
-use Rattle.rc_spec.specs.Decomposition.{IsWalk, LiesOnCircle}
+use Rattle.rc_graph.proofs.Imports.{nat_cmp, In, nat_order, in_put, put_new, put_old, in_has, has_in, has, is_within, union, with_column, in_union, within_from_test, Edge, Spec, IsWalk, LiesOnCircle, Reaches, IsTarget, reaches_one, reaches_more, walk_inside, circle_reaches, reaches_circle}
 use Rattle.rc_graph.proofs.EdgeLemmas.{IsAt, passed_before, passed_here, passed_next}
-use Rattle.rc_graph.specs.Walks.{Reaches, IsTarget}
-use Rattle.rc_graph.specs.WalksLaws.{reaches_one, reaches_more, walk_inside, circle_reaches, reaches_circle}
 
 -- each of the set is reached from the node
 abbrev pub AreReached : Spec → ℕ → List ℕ → Type 0

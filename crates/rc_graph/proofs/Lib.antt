@@ -1,3 +1,4 @@
 pub mod CircleLemmas
 pub mod EdgeLemmas
 pub mod OrderLemmas
+mod Imports

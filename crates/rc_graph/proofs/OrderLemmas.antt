@@ -1,21 +1,6 @@
 -- The order that is built node by node.
 use Rattle.std.proofs.Common.{◌≡◌, ℕ, zero, suc, ◌<◌, ◌≤◌, ◌↔◌, Bool, true, false, List, [], ◌∷◌, ◌++◌, ◌⊎◌, length, take, get_or, inl, inr, refl, sym, ap, subst, ◌∙◌, arith}
-use Rattle.std.specs.Ordering.{nat_cmp}
-use Rattle.std.proofs.lemmas.Bool.{false≢true, cases_eq, cases_lt}
-use Rattle.std.proofs.lemmas.List.{take-append-le, length-append}
-use Rattle.std.proofs.Math.ListN.{get_or-append}
-use Rattle.std.proofs.Math.Seq.{take-append_seam, get_or-append_seam}
-use Rattle.rc_tuple.specs.RisingSet.{In}
-use Rattle.rc_tuple.specs.RisingSetLaws.{nat_order, in_put, put_new, put_old, in_append, append_in_left, append_in_right, in_has, has_in}
-use Rattle.rc_tuple.specs.ColSet.{has, with_column}
-use Rattle.rc_spec.specs.declared.items.Edge.{Edge}
-use Rattle.rc_spec.specs.declared.spec.Spec.{Spec}
-use Rattle.rc_spec.specs.Adequacy.{KeepsA2}
-use Rattle.rc_spec.specs.InRange.{IsInRange}
-use Rattle.rc_spec.specs.Order.{CanBeNext, IsNext, IsTopologicalOrder}
-use Rattle.rc_graph.specs.Walks.{Reaches}
-use Rattle.rc_graph.specs.WalksLaws.{reaches_one, reaches_before, reaches_circle}
-use Rattle.rc_tuple.specs.GrowthLaws.{missing, missing_lt}
+use Rattle.rc_graph.proofs.Imports.{nat_cmp, false≢true, cases_eq, cases_lt, take-append-le, length-append, get_or-append, take-append_seam, get_or-append_seam, In, nat_order, in_put, put_new, put_old, in_append, append_in_left, append_in_right, in_has, has_in, has, with_column, Edge, Spec, KeepsA2, IsInRange, CanBeNext, IsNext, IsTopologicalOrder, Reaches, reaches_one, reaches_before, reaches_circle, missing, missing_lt}
 
 -- ---- where no node can be next, all are before
 

@@ -1,17 +1,6 @@
 -- The columns that words name, looked up one after another.
 use Rattle.std.proofs.Common.{◌≡◌, ℕ, Bool, true, false, ◌||◌, cond, List, [], ◌∷◌, ◌++◌, Option, Some, None, refl, sym, ap, ◌∙◌, subst, inl, inr, append_assoc, append-nil}
-use Rattle.std.specs.Ordering.{nat_cmp}
-use Rattle.std.specs.Prelude.{is_none}
-use Rattle.std.specs.List.{cons_option}
-use Rattle.std.proofs.lemmas.Bool.{cases_Bool}
-use Rattle.rc_tuple.specs.ColSet.{has, with_column}
-use Rattle.rc_tuple.specs.RisingSet.{In, AreDistinct, gather}
-use Rattle.rc_tuple.specs.RisingSetLaws.{nat_order, in_gather, gather_in, gather_more, in_has, has_in}
-use Rattle.rc_spec.specs.declared.spec.Spec.{Spec}
-use Rattle.rc_spec.specs.Names.{column_names}
-use Rattle.rc_reader.specs.Names.{number_among, has_repeat, numbers_of, has_unknown}
-use Rattle.rc_reader.specs.MembersLaws.{distinct_push, distinct_from_test, test_from_distinct, distinct_apart}
-use Rattle.rc_handplan.specs.Statements.{columns_named}
+use Rattle.rc_handplan.proofs.Imports.{nat_cmp, is_none, cons_option, cases_Bool, has, with_column, In, AreDistinct, gather, nat_order, in_gather, gather_in, gather_more, in_has, has_in, Spec, column_names, number_among, has_repeat, numbers_of, has_unknown, distinct_push, distinct_from_test, test_from_distinct, distinct_apart, columns_named}
 
 -- what a word makes of the columns so far, and then the words behind it by `others`
 abbrev pub columns_by : List ℕ → Option ℕ → (List ℕ → Option (List ℕ)) → Option (List ℕ)

@@ -1,17 +1,6 @@
 -- Plans that are taken out one after another.
 use Rattle.std.proofs.Common.{not, add-one, ◌≡◌, ℕ, zero, suc, ◌+◌, ◌<◌, ◌≤◌, true, false, cond, eqb, ltb, List, [], ◌∷◌, ◌++◌, length, get_or, set, take, drop, Option, Some, None, refl, sym, ap, ◌∙◌, subst, inl, inr, one-add, arith}
-use Rattle.std.specs.List.{position, position_or_len}
-use Rattle.std.proofs.lemmas.Bool.{cases_lt, eqb-true, ltb-true, ltb-false, ne_eqb}
-use Rattle.std.proofs.lemmas.Option.{cond_some}
-use Rattle.std.proofs.lemmas.List.{get_or_append_left, get_or_push}
-use Rattle.std.proofs.lemmas.List.Sums.{passes_at_first}
-use Rattle.rc_tuple.specs.RisingSet.{In}
-use Rattle.rc_reader.specs.MembersLaws.{each_push}
-use Rattle.rc_plan.specs.Compiled.{plan_at}
-use Rattle.rc_plan.specs.declared.statement.Statement.{Statement}
-use Rattle.rc_handplan.specs.Chosen.{plan_for}
-use Rattle.rc_handplan.specs.Hands.{is_of}
-use Rattle.rc_handplan.specs.declared.hand.Hand.{Hand}
+use Rattle.rc_handplan.proofs.Imports.{position, position_or_len, cases_lt, eqb-true, ltb-true, ltb-false, ne_eqb, cond_some, get_or_append_left, get_or_push, passes_at_first, In, each_push, plan_at, Statement, plan_for, is_of, Hand}
 
 -- the plan of an operation stands at its place
 plan_at_place : (hands : List Hand) (op : ℕ) (hand : Hand) → position_or_len (is_of op) hands < length hands

@@ -1,11 +1,6 @@
 -- The last of some plans, by its place.
 use Rattle.std.proofs.Common.{◌≡◌, ℕ, zero, suc, ◌+◌, true, false, nat_le, List, [], ◌∷◌, length, get_or, set, Ok, Err, ap, sym, ◌∙◌, refl, arith}
-use Rattle.rc_plan.specs.declared.statement.Statement.{Statement}
-use Rattle.rc_spec.specs.declared.spec.Spec.{Spec}
-use Rattle.rc_handplan.specs.declared.hand.Hand.{Hand}
-use Rattle.rc_handplan.specs.declared.refusal.HandRule.TheVariants.{H4}
-use Rattle.rc_handplan.specs.HandGrammar.{statement_in, with_next, after_statement}
-use Rattle.rc_handplan.specs.Hands.{with_statement, last_plan, onto_last}
+use Rattle.rc_handplan.proofs.Imports.{Statement, Spec, Hand, H4, statement_in, with_next, after_statement, with_statement, last_plan, onto_last}
 
 -- the last plan is written at its place
 pub set_last : (hands : List Hand) (n : ℕ) (hand more : Hand) (statement : Statement) → n + 1 ≡ length hands

@@ -3,3 +3,4 @@ pub mod CompilingLemmas
 pub mod LastLemmas
 pub mod ReadingLemmas
 pub mod WordLemmas
+mod Imports

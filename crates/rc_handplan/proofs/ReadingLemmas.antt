@@ -1,17 +1,9 @@
 -- The answers of the code that reads plans.
 use Rattle.std.proofs.Common.{◌≡◌, ℕ, ◌+◌, Bool, false, List, ◌∷◌, sym, ap, ◌∙◌}
 use Rattle.rc_text.specs.LanguageLaws as laws
-use Rattle.rc_text.specs.Lines.{ContentLine, TextPlace}
-use Rattle.rc_text.specs.declared.lines.Line.{Line}
-use Rattle.rc_spec.specs.declared.spec.Spec.{Spec}
-use Rattle.rc_handplan.specs.declared.hand.Hand.{Hand}
-use Rattle.rc_handplan.specs.declared.refusal.LineFault.{LineFault}
+use Rattle.rc_handplan.proofs.Imports.{ContentLine, TextPlace, Line, Spec, Hand, LineFault, Closing, LineStart, FailsLine, Refuses, refusal_at, hand_language, after_line, going_on, line_start, ends_plans}
 use Rattle.rc_handplan.specs.declared.refusal.LineFault.TheVariants as faults
-use Rattle.rc_handplan.specs.declared.starts.Closing.{Closing}
-use Rattle.rc_handplan.specs.declared.starts.LineStart.{LineStart}
-use Rattle.rc_handplan.specs.Answers.{FailsLine, Refuses, refusal_at}
-use Rattle.rc_handplan.specs.HandGrammar.{hand_language, hands_from, after_line, going_on}
-use Rattle.rc_handplan.specs.Starts.{line_start, ends_plans}
+use Rattle.rc_handplan.specs.HandGrammar.{hands_from}
 
 module _ (closing : Closing) (spec : Spec) (past_end : ℕ) (hands : List Hand) (lines : List ContentLine) where
   -- the first line is not read

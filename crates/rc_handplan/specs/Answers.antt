@@ -1,8 +1,6 @@
 -- How the code's answers give what the definitions give. Want of memory says nothing.
 use Rattle.std.specs.Prelude.{◌≡◌, ℕ, List, Result, Ok, Err}
-use Rattle.rc_text.specs.Lines.{content_from, IsLineStart}
-use Rattle.rc_reader.specs.Answers.{rest_place}
-use Rattle.rc_reader.specs.declared.reading.Rest.{Rest}
+use Rattle.rc_handplan.specs.Imports.{content_from, IsLineStart, rest_place, Rest}
 use Rattle.rc_handplan.specs.declared.hand.Hand.{Hand}
 use Rattle.rc_handplan.specs.declared.refusal.HandRule.{HandRule}
 use Rattle.rc_handplan.specs.declared.refusal.HandRefusal.{HandRefusal}

@@ -1,14 +1,6 @@
 -- The plans of operations, of which some are written.
 use Rattle.std.specs.Prelude.{◌≡◌, ℕ, ◌<◌, ◌==◌, if◌then◌else◌, List, [], ◌∷◌, ◌++◌, length, Option, Some, None}
-use Rattle.rc_tuple.specs.RisingSet.{In}
-use Rattle.rc_spec.specs.Acceptance.{IsSealed}
-use Rattle.rc_spec.specs.Placement.{op_at}
-use Rattle.rc_spec.specs.declared.spec.Spec.{Spec}
-use Rattle.rc_plan.specs.Compiled.{plan_at}
-use Rattle.rc_plan.specs.PlanRules.{KeepsPlanRules, IsFirstBrokenPlanRule}
-use Rattle.rc_plan.specs.declared.refusal.PlanRefusal.{PlanRefusal}
-use Rattle.rc_plan.specs.declared.statement.Statement.{Statement}
-use Rattle.rc_query.specs.Planned.{IsPlanned}
+use Rattle.rc_handplan.specs.Imports.{In, IsSealed, op_at, Spec, plan_at, KeepsPlanRules, IsFirstBrokenPlanRule, PlanRefusal, Statement, IsPlanned}
 use Rattle.rc_handplan.specs.declared.compiling.HandFault.{HandFault}
 use Rattle.rc_handplan.specs.declared.compiling.HandFault.TheVariants as faults
 use Rattle.rc_handplan.specs.declared.hand.Hand.{Hand}

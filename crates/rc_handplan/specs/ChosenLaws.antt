@@ -2,15 +2,7 @@
 use Rattle.std.proofs.Common.{◌≡◌, ℕ, true, false, cond, eqb, List, [], ◌∷◌, Option, Some, None, refl, sym, ◌∙◌, subst, inl, inr}
 use Rattle.std.proofs.lemmas.Bool.{eqb-true}
 use Rattle.std.proofs.lemmas.Option.{same_Some}
-use Rattle.rc_tuple.specs.RisingSet.{In}
-use Rattle.rc_spec.specs.Placement.{op_at}
-use Rattle.rc_spec.specs.declared.spec.Spec.{Spec}
-use Rattle.rc_plan.specs.Compiled.{IsPlanOf, plan_at}
-use Rattle.rc_plan.specs.PlanRules.{AreKnown, KeepsPlanRules}
-use Rattle.rc_plan.specs.declared.statement.Statement.{Statement}
-use Rattle.rc_query.specs.Planned.{IsPlanned}
-use Rattle.rc_query.specs.PlannedLaws.{one_planned}
-use Rattle.rc_spec.specs.Acceptance.{IsSealed}
+use Rattle.rc_handplan.specs.Imports.{In, op_at, Spec, IsPlanOf, plan_at, AreKnown, KeepsPlanRules, Statement, IsPlanned, one_planned, IsSealed}
 use Rattle.rc_handplan.specs.Chosen.{plan_for, IsChosenBy, AllKeepRules, OneChosenPlan, PlannedPlansMayBeWritten}
 use Rattle.rc_handplan.specs.Hands.{AreHands}
 use Rattle.rc_handplan.specs.declared.hand.Hand.{Hand}

@@ -1,8 +1,7 @@
 -- What it is that a line is the first to break a rule of plans, over the whole list of lines.
 use Rattle.std.specs.Prelude.{◌≡◌, ◌↔◌, List, [], ◌∷◌, Result, Ok}
 use Rattle.rc_text.specs.Language as language
-use Rattle.rc_text.specs.Lines.{ContentLine, TextPlace, content_from, past_end_of}
-use Rattle.rc_spec.specs.declared.spec.Spec.{Spec}
+use Rattle.rc_handplan.specs.Imports.{ContentLine, TextPlace, content_from, past_end_of, Spec}
 use Rattle.rc_handplan.specs.declared.starts.Closing.{Closing}
 use Rattle.rc_handplan.specs.HandGrammar.{HandReading, Broken, hand_language, hands_reading_to}
 use Rattle.rc_handplan.specs.Starts.{BeginsPlan}

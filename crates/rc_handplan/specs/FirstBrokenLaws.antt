@@ -2,8 +2,7 @@
 use Rattle.std.proofs.Math.Bool.{or-true}
 use Rattle.std.proofs.Common.{◌≡◌, ◌≢◌, ℕ, true, List, [], ◌∷◌, Result, Ok, refl, subst}
 use Rattle.rc_text.specs.LanguageLaws as laws
-use Rattle.rc_text.specs.Lines.{ContentLine, content_from, past_end_of}
-use Rattle.rc_spec.specs.declared.spec.Spec.{Spec}
+use Rattle.rc_handplan.specs.Imports.{ContentLine, content_from, past_end_of, Spec}
 use Rattle.rc_handplan.specs.declared.starts.Closing.{Closing}
 use Rattle.rc_handplan.specs.declared.starts.LineStart.{LineStart}
 use Rattle.rc_handplan.specs.declared.starts.LineStart.TheVariants as starts

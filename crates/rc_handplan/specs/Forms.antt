@@ -1,14 +1,6 @@
 -- The forms of a statement's line.
 use Rattle.std.specs.Prelude.{ℕ, if◌then◌else◌, List, [], ◌∷◌, Option, Some, None, codes}
-use Rattle.std.specs.Option.{option_map, option_and_then}
-use Rattle.std.specs.Str.{bytes_eq}
-use Rattle.rc_text.specs.Numbers.{is_number}
-use Rattle.rc_spec.specs.declared.lock.Mode.{Mode}
-use Rattle.rc_spec.specs.declared.lock.Mode.TheVariants.{Shared, Exclusive}
-use Rattle.rc_reader.specs.Forms.{texts}
-use Rattle.rc_plan.specs.declared.statement.ReadMode.{ReadMode}
-use Rattle.rc_plan.specs.declared.statement.ReadMode.TheVariants.{Lookup, Scan}
-use Rattle.rc_plan.specs.declared.statement.Which.{Which}
+use Rattle.rc_handplan.specs.Imports.{option_map, option_and_then, bytes_eq, is_number, Mode, Shared, Exclusive, texts, ReadMode, Lookup, Scan, Which}
 use Rattle.rc_plan.specs.declared.statement.Which.TheVariants as which
 use Rattle.rc_handplan.specs.declared.forms.Keyword.{Keyword}
 use Rattle.rc_handplan.specs.declared.forms.Keyword.TheVariants as keyword

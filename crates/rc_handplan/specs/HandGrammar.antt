@@ -1,16 +1,7 @@
 -- The plans that the content lines behind a specification give, or the first broken rule of such lines with its line.
 use Rattle.std.specs.Prelude.{ℕ, Bool, true, false, nat_le, ◌==◌, if◌then◌else◌, List, [], ◌∷◌, length, Option, Some, None, Result, Ok, Err, codes}
-use Rattle.std.specs.List.{list_any}
-use Rattle.std.specs.Option.{option_and_then, ok_or}
-use Rattle.std.specs.Str.{bytes_eq}
+use Rattle.rc_handplan.specs.Imports.{list_any, option_and_then, ok_or, bytes_eq, Language, ContentLine, TextPlace, content_from, past_end_of, start_of, op_names, Spec, plain_words_of, number_among, Statement}
 use Rattle.rc_text.specs.Language as language
-use Rattle.rc_text.specs.Language.{Language}
-use Rattle.rc_text.specs.Lines.{ContentLine, TextPlace, content_from, past_end_of, start_of}
-use Rattle.rc_spec.specs.Names.{op_names}
-use Rattle.rc_spec.specs.declared.spec.Spec.{Spec}
-use Rattle.rc_reader.specs.Forms.{plain_words_of}
-use Rattle.rc_reader.specs.Names.{number_among}
-use Rattle.rc_plan.specs.declared.statement.Statement.{Statement}
 use Rattle.rc_handplan.specs.declared.hand.Hand.{Hand}
 use Rattle.rc_handplan.specs.declared.refusal.HandRule.{HandRule}
 use Rattle.rc_handplan.specs.declared.refusal.HandRule.TheVariants.{H1, H2, H3, H4, S8}

@@ -1,8 +1,7 @@
 -- What each line of plans does to what all lines give.
 use Rattle.std.proofs.Common.{◌<◌, arith, ◌≡◌, ℕ, true, false, List, [], ◌∷◌, length, eqb, Ok, Err, refl, sym, ap, ◌∙◌}
 use Rattle.rc_text.specs.LanguageLaws as laws
-use Rattle.rc_text.specs.Lines.{ContentLine}
-use Rattle.rc_spec.specs.declared.spec.Spec.{Spec}
+use Rattle.rc_handplan.specs.Imports.{ContentLine, Spec}
 use Rattle.rc_handplan.specs.declared.hand.Hand.{Hand}
 use Rattle.rc_handplan.specs.declared.refusal.HandRule.TheVariants.{S8}
 use Rattle.rc_handplan.specs.declared.starts.Closing.{Closing}

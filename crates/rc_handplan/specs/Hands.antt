@@ -1,11 +1,6 @@
 -- Plans that are written for operations.
 use Rattle.std.specs.Prelude.{ℕ, ◌<◌, ◌≤◌, Bool, ◌==◌, List, [], ◌∷◌, ◌++◌, length, map}
-use Rattle.std.specs.Ordering.{nat_cmp}
-use Rattle.rc_tuple.specs.RisingSet.{In, IsRising, AreDistinct}
-use Rattle.rc_spec.specs.declared.spec.Spec.{Spec}
-use Rattle.rc_plan.specs.declared.statement.Statement.{Statement}
-use Rattle.rc_plan.specs.declared.statement.Statement.TheVariants.{Lock, Probe, Read, CheckAbsent, CheckFound, CheckDep, Apply, Emit, Commit, Release}
-use Rattle.rc_plan.specs.PlanRules.{AreKnown}
+use Rattle.rc_handplan.specs.Imports.{nat_cmp, In, IsRising, AreDistinct, Spec, Statement, Lock, Probe, Read, CheckAbsent, CheckFound, CheckDep, Apply, Emit, Commit, Release, AreKnown}
 use Rattle.rc_handplan.specs.declared.hand.Hand.{Hand}
 
 -- it is the plan of the operation

@@ -1,36 +1,11 @@
 -- Plans that are read are plans of operations, each of its own, and name what the specification has.
 use Rattle.std.proofs.Common.{◌≡◌, ℕ, ◌<◌, ◌≤◌, Bool, true, false, ◌||◌, nat_le, cond, eqb, List, [], ◌∷◌, length, Option, Some, None, Result, Ok, Err, refl, sym, ap, subst, inl, inr, arith}
 use Rattle.std.specs.Prelude.{◌&&◌}
-use Rattle.std.specs.List.{list_any}
-use Rattle.std.specs.Option.{option_map, option_and_then, ok_or}
+use Rattle.rc_handplan.specs.Imports.{list_any, option_map, option_and_then, ok_or, Within, in_range_below, Lock, Probe, Read, CheckAbsent, CheckFound, CheckDep, Apply, Emit, Commit, Release, nat_cmp, broken_at, Keeps, read_keeps, TextPlace, content_from, past_end_of, u64_of, NumFault, In, IsRising, AreDistinct, gather, nat_order, in_gather, rising_gather, all_columns, column_names, edge_names, class_names, op_names, Op, Class, Column, Edge, Spec, plain_words_of, each_push, distinct_push, numbers_of, has_unknown, names_twice, number_among-below, numbers_of-below, Statement, IsKnown, AreKnown}
 use Rattle.std.proofs.lemmas.Option.{cond_some, same_Some, option_and_then_some}
-use Rattle.rc_tuple.specs.ColSet.{Within}
-use Rattle.rc_tuple.specs.ColSetLaws.{in_range_below}
-use Rattle.rc_plan.specs.declared.statement.Statement.TheVariants.{Lock, Probe, Read, CheckAbsent, CheckFound, CheckDep, Apply, Emit, Commit, Release}
 use Rattle.rc_handplan.specs.declared.refusal.HandRule.TheVariants.{H1, H3, H4, S8}
-use Rattle.std.specs.Ordering.{nat_cmp}
 use Rattle.std.proofs.lemmas.Bool.{and_parts, or_parts, leb-true, leb-false, eq-eqb}
 use Rattle.std.proofs.lemmas.List.{length-map, length-append, map_push}
-use Rattle.rc_text.specs.Language.{broken_at}
-use Rattle.rc_text.specs.LanguageLaws.{Keeps, read_keeps}
-use Rattle.rc_text.specs.Lines.{TextPlace, content_from, past_end_of}
-use Rattle.rc_text.specs.Numbers.{u64_of}
-use Rattle.rc_text.specs.declared.numbers.NumFault.{NumFault}
-use Rattle.rc_tuple.specs.RisingSet.{In, IsRising, AreDistinct, gather}
-use Rattle.rc_tuple.specs.RisingSetLaws.{nat_order, in_gather, rising_gather}
-use Rattle.rc_spec.specs.Calls.{all_columns}
-use Rattle.rc_spec.specs.Names.{column_names, edge_names, class_names, op_names}
-use Rattle.rc_spec.specs.declared.items.Op.{Op}
-use Rattle.rc_spec.specs.declared.items.Class.{Class}
-use Rattle.rc_spec.specs.declared.items.Column.{Column}
-use Rattle.rc_spec.specs.declared.items.Edge.{Edge}
-use Rattle.rc_spec.specs.declared.spec.Spec.{Spec}
-use Rattle.rc_reader.specs.Forms.{plain_words_of}
-use Rattle.rc_reader.specs.MembersLaws.{each_push, distinct_push}
-use Rattle.rc_reader.specs.Names.{numbers_of, has_unknown, names_twice}
-use Rattle.rc_reader.specs.NamesLaws.{number_among-below, numbers_of-below}
-use Rattle.rc_plan.specs.declared.statement.Statement.{Statement}
-use Rattle.rc_plan.specs.PlanRules.{IsKnown, AreKnown}
 use Rattle.rc_handplan.specs.declared.hand.Hand.{Hand}
 use Rattle.rc_handplan.specs.declared.refusal.HandRule.{HandRule}
 use Rattle.rc_handplan.specs.declared.starts.Closing.{Closing}

@@ -15,3 +15,4 @@ pub mod RuleText
 pub mod Starts
 pub mod StartsLaws
 pub mod Statements
+pub mod Imports

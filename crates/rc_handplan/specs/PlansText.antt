@@ -1,11 +1,6 @@
 -- The plans of a specification's operations, as they are printed.
 use Rattle.std.specs.Prelude.{ℕ, ◌<◌, List, [], ◌∷◌, ◌++◌, length, codes}
-use Rattle.std.specs.List.{flat_map, range_with_len}
-use Rattle.rc_text.specs.Lines.{printed_lines}
-use Rattle.rc_spec.specs.declared.spec.Spec.{Spec}
-use Rattle.rc_plan.specs.Compiled.{plan_at}
-use Rattle.rc_plan.specs.PlanText.{plan_text}
-use Rattle.rc_plan.specs.declared.statement.Statement.{Statement}
+use Rattle.rc_handplan.specs.Imports.{flat_map, range_with_len, printed_lines, Spec, plan_at, plan_text, Statement}
 use Rattle.rc_handplan.specs.Hands.{HaveSets}
 
 -- the text of an operation's plan, by its number

@@ -1,9 +1,6 @@
 -- The rules of the lines of plans, and refused plans, as they are printed.
 use Rattle.std.specs.Prelude.{ℕ, List, ◌++◌, decimal, codes}
-use Rattle.rc_spec.specs.Placement.{op_at}
-use Rattle.rc_spec.specs.declared.spec.Spec.{Spec}
-use Rattle.rc_plan.specs.PlanText.{plan_rule_text}
-use Rattle.rc_plan.specs.declared.refusal.PlanRefusal.{PlanRefusal}
+use Rattle.rc_handplan.specs.Imports.{op_at, Spec, plan_rule_text, PlanRefusal}
 use Rattle.rc_handplan.specs.declared.refusal.HandRule.{HandRule}
 use Rattle.rc_handplan.specs.declared.refusal.HandRule.TheVariants.{H1, H2, H3, H4, S8}
 

@@ -1,7 +1,6 @@
 -- What a line is, by its first word.
 use Rattle.std.specs.Prelude.{◌≡◌, ℕ, Bool, true, false, ◌==◌, ◌||◌, if◌then◌else◌, List, length, Some, None, Ok, Err, codes}
-use Rattle.std.specs.Str.{bytes_eq}
-use Rattle.rc_text.specs.Words.{WordText, plain_text, quoted_text, Found, next_word_of}
+use Rattle.rc_handplan.specs.Imports.{bytes_eq, WordText, plain_text, quoted_text, Found, next_word_of}
 use Rattle.rc_handplan.specs.declared.hand.Hand.{Hand}
 use Rattle.rc_handplan.specs.declared.starts.Closing.{Closing}
 use Rattle.rc_handplan.specs.declared.starts.Closing.TheVariants as closings

@@ -1,9 +1,6 @@
 -- What a line is, by its words.
 use Rattle.std.proofs.Common.{◌≡◌, ℕ, List, [], ◌∷◌, Option, Some, None, Result, Ok, Err, sym, ap, ◌∙◌}
-use Rattle.rc_text.specs.Words.{WordText, plain_text, quoted_text, Found, next_word_of, words_of, found_then}
-use Rattle.rc_text.specs.WordsLaws.{words_of-step}
-use Rattle.rc_text.specs.declared.words.WordFault.{WordFault}
-use Rattle.rc_reader.specs.Forms.{onto_words, all_plain, plain_words_of}
+use Rattle.rc_handplan.specs.Imports.{WordText, plain_text, quoted_text, Found, next_word_of, words_of, found_then, words_of-step, WordFault, onto_words, all_plain, plain_words_of}
 use Rattle.rc_handplan.specs.Starts.{start_of_word, start_by, start_of, line_start}
 
 same_first : (word : List ℕ) (others : Option (List (List ℕ))) (first : List ℕ) (words : List (List ℕ))

@@ -1,18 +1,6 @@
 -- The statement that a line writes, and the line that a statement is written in.
 use Rattle.std.specs.Prelude.{ℕ, ◌||◌, ◌&&◌, nat_le, if◌then◌else◌, List, map, length, get_or, decimal, Option, Some, None, Result, Ok, Err}
-use Rattle.std.specs.Option.{option_map}
-use Rattle.std.specs.Ordering.{nat_cmp}
-use Rattle.rc_tuple.specs.RisingSet.{gather}
-use Rattle.rc_text.specs.Numbers.{u64_of}
-use Rattle.rc_text.specs.declared.numbers.NumFault.{NumFault}
-use Rattle.rc_spec.specs.Decomposition.{edge_at}
-use Rattle.rc_spec.specs.Names.{column_names, edge_names, class_names}
-use Rattle.rc_spec.specs.Placement.{class_at}
-use Rattle.rc_spec.specs.RefusalText.{no_column}
-use Rattle.rc_spec.specs.declared.spec.Spec.{Spec}
-use Rattle.rc_reader.specs.Names.{number_among, numbers_of, has_unknown, names_twice}
-use Rattle.rc_plan.specs.declared.statement.Statement.{Statement}
-use Rattle.rc_plan.specs.declared.statement.Statement.TheVariants.{Lock, Probe, Read, CheckAbsent, CheckFound, CheckDep, Apply, Emit, Commit, Release}
+use Rattle.rc_handplan.specs.Imports.{option_map, nat_cmp, gather, u64_of, NumFault, edge_at, column_names, edge_names, class_names, class_at, no_column, Spec, number_among, numbers_of, has_unknown, names_twice, Statement, Lock, Probe, Read, CheckAbsent, CheckFound, CheckDep, Apply, Emit, Commit, Release}
 use Rattle.rc_handplan.specs.Forms.{StatementForm, lock_form, probe_form, read_form, absent_form, found_form, check_form, apply_form, emit_form, commit_form, release_form}
 
 abbrev pub class_named : Spec → List ℕ → Option ℕ

@@ -1,8 +1,6 @@
 -- A contraction of an accepted specification is accepted.
 use Rattle.std.proofs.Common.{◌≡◌, ℕ, Some}
-use Rattle.rc_spec.specs.declared.spec.Spec.{Spec}
-use Rattle.rc_spec.specs.Acceptance.{IsSealed}
-use Rattle.rc_inline.specs.Contraction.{contracted, first_inlinable}
+use Rattle.rc_inline.proofs.Imports.{Spec, IsSealed, contracted, first_inlinable}
 use Rattle.rc_inline.proofs.AdequacyLemmas.{adequate_kept}
 use Rattle.rc_inline.proofs.ContractionLemmas.{contracted_in_range, contracted_populated}
 use Rattle.rc_inline.proofs.PlacementLemmas.{ops_kept, placed_kept}

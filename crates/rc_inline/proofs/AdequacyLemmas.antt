@@ -1,29 +1,12 @@
 -- A contraction keeps the rules of the edges and of the columns.
 use Rattle.std.proofs.Common.{◌≡◌, ◌==◌, ◌⊎◌, ℕ, ◌+◌, ◌-◌, ◌<◌, Bool, true, false, if◌then◌else◌, nat_lt, List, Some, get_or, length, take, sym, ap, ◌∙◌, subst, refl, inl, inr, arith}
-use Rattle.std.specs.List.{remove}
-use Rattle.std.proofs.lemmas.Bool.{cases_eq, eq-eqb, eqb-true, eqb-false, ltb-true, ltb-false, ne_eqb}
-use Rattle.std.proofs.lemmas.List.{length-map}
-use Rattle.std.proofs.lemmas.List.Edits.{length-remove}
-use Rattle.rc_tuple.specs.ColSet.{Within, inter}
-use Rattle.rc_tuple.specs.ColSetLaws.{in_inter, inter_in}
-use Rattle.rc_tuple.specs.Relation.{Follows}
-use Rattle.rc_tuple.specs.RisingSet.{In}
-use Rattle.rc_tuple.specs.RisingSetLaws.{get_or_in}
-use Rattle.rc_fd.specs.FollowsLaws.{follows_by, follows_subset, follows_transitive, follows_union, follows_weaker}
-use Rattle.rc_spec.specs.declared.items.Edge.{Edge}
-use Rattle.rc_spec.specs.declared.items.EdgeKind.{EdgeKind}
-use Rattle.rc_spec.specs.declared.items.EdgeKind.TheVariants.{Hash, List as Listed, Ordered, Singleton}
-use Rattle.rc_spec.specs.declared.spec.Spec.{Spec}
-use Rattle.rc_spec.specs.Acceptance.{IsSealed}
-use Rattle.rc_spec.specs.Adequacy.{IsAdequate, IsLossless, IsReachedBy, KeepsA3, KeepsA4, KeepsA5, KeepsA7, visited}
-use Rattle.rc_spec.specs.Decomposition.{bound, edge_at, no_edge, source_and_key}
-use Rattle.rc_inline.specs.Contraction.{contracted, first_inlinable, is_singleton, rejoined, renumbered}
+use Rattle.rc_inline.proofs.Imports.{remove, cases_eq, eq-eqb, eqb-true, eqb-false, ltb-true, ltb-false, ne_eqb, length-map, length-remove, Within, inter, in_inter, inter_in, Follows, In, get_or_in, follows_by, follows_subset, follows_transitive, follows_union, follows_weaker, Edge, EdgeKind, Hash, Ordered, Singleton, Spec, IsSealed, IsAdequate, IsLossless, IsReachedBy, KeepsA3, KeepsA4, KeepsA5, KeepsA7, visited, bound, edge_at, no_edge, source_and_key, contracted, first_inlinable, is_singleton, rejoined, renumbered, others_fail}
+use Rattle.rc_spec.specs.declared.items.EdgeKind.TheVariants.{List as Listed}
 use Rattle.rc_inline.proofs.BackLemmas.{before, before_renumbered, get_removed}
 use Rattle.rc_inline.proofs.ContractionLemmas.{fewer, found_known, is_single, one_in, renumbered_below}
 use Rattle.rc_inline.proofs.EdgeLemmas.{from_other, key_kept, led_wider, source_and_key_kept, source_kept, target_kept}
 use Rattle.rc_inline.proofs.GraphLemmas.{a1_kept, a2_kept, not_root, renumbered_root}
 use Rattle.rc_inline.proofs.KeptLemmas.{edge_kept, edge_within, within}
-use Rattle.rc_inline.specs.RemovedLaws.{others_fail}
 use Rattle.rc_inline.proofs.VisitedLemmas.{Leads, Visits, in_targets, in_visited, targets_in, visited_in}
 
 singleton_is : (kind : EdgeKind) → is_singleton kind ≡ true → kind ≡ Singleton

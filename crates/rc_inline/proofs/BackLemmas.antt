@@ -1,9 +1,6 @@
 -- Numbers of what is left when one is gone, and what had them before.
 use Rattle.std.proofs.Common.{◌≡◌, ℕ, ◌+◌, ◌-◌, ◌<◌, Bool, true, false, if◌then◌else◌, nat_lt, List, get_or, length, refl, ap, ◌∙◌, arith}
-use Rattle.std.specs.List.{remove}
-use Rattle.std.proofs.lemmas.Bool.{ltb-true, ltb-false, lt-ltb, le-ltb}
-use Rattle.std.proofs.lemmas.List.Edits.{get_or-remove_above, get_or-remove_below}
-use Rattle.rc_inline.specs.Contraction.{renumbered}
+use Rattle.rc_inline.proofs.Imports.{remove, ltb-true, ltb-false, lt-ltb, le-ltb, get_or-remove_above, get_or-remove_below, renumbered}
 
 -- what has this number had before: the same, or one more
 abbrev pub before : ℕ → ℕ → ℕ

@@ -1,21 +1,6 @@
 -- An accepted specification whose edges are moved is accepted, where they keep P3 then.
 use Rattle.std.proofs.Common.{◌≡◌, ℕ, zero, suc, List, [], ◌∷◌, ◌++◌, drop, get_or, length, map, refl, take, sym, ◌∙◌, subst, arith}
-use Rattle.std.proofs.lemmas.List.{length-map}
-use Rattle.rc_tuple.specs.ColSet.{Within}
-use Rattle.rc_tuple.specs.RisingSet.{In}
-use Rattle.rc_tuple.specs.RisingSetLaws.{in_map}
-use Rattle.rc_spec.specs.declared.items.Edge.{Edge}
-use Rattle.rc_spec.specs.declared.items.Place.{Place}
-use Rattle.rc_spec.specs.declared.spec.Spec.{Spec}
-use Rattle.rc_spec.specs.Acceptance.{IsAccepted, IsSealed}
-use Rattle.rc_spec.specs.Adequacy.{IsAdequate, KeepsA1, KeepsA2, KeepsA3, KeepsA5, KeepsA6}
-use Rattle.rc_spec.specs.Decomposition.{IsCircle, IsWalk, bound, edge_at, source_and_key}
-use Rattle.rc_spec.specs.InRange.{IsInRange, IsPlaceAmong, IsWellFormed}
-use Rattle.rc_spec.specs.Order.{IsNext, IsTopologicalOrder}
-use Rattle.rc_spec.specs.Placement.{IsPlaced, KeepsO, op_at}
-use Rattle.rc_inline.specs.Placing.{co_placed, moved}
-use Rattle.rc_inline.specs.PlacingLaws.{AreOrdered, co_count, co_striping}
-use Rattle.rc_inline.specs.WidestLaws.{widest_known}
+use Rattle.rc_inline.proofs.Imports.{length-map, Within, In, in_map, Edge, Place, Spec, IsAccepted, IsSealed, IsAdequate, KeepsA1, KeepsA2, KeepsA3, KeepsA5, KeepsA6, IsCircle, IsWalk, bound, edge_at, source_and_key, IsInRange, IsPlaceAmong, IsWellFormed, IsNext, IsTopologicalOrder, IsPlaced, KeepsO, op_at, co_placed, moved, AreOrdered, co_count, co_striping, widest_known}
 
 -- behind the front that is changed a list is what it was
 pub at_rest : {A : Type 0} (f : A → A) (xs : List A) (i : ℕ) (d : A) → get_or (map f (take i xs) ++ drop i xs) i d ≡ get_or xs i d

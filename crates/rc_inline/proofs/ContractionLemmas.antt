@@ -1,22 +1,6 @@
 -- A contraction of an accepted specification is in range.
 use Rattle.std.proofs.Common.{◌≡◌, ◌==◌, ℕ, ◌+◌, ◌-◌, ◌<◌, Bool, true, false, not, ◌&&◌, if◌then◌else◌, nat_lt, [], ◌∷◌, filter, map, length, Some, refl, sym, subst, inl, arith}
-use Rattle.std.specs.List.{remove}
-use Rattle.std.proofs.lemmas.Bool.{eq-eqb, eqb-true, eqb-false, ltb-true, ltb-false, not-true}
-use Rattle.std.proofs.lemmas.List.{length-map}
-use Rattle.std.proofs.lemmas.List.Edits.{length-remove}
-use Rattle.std.proofs.lemmas.List.Quantifiers.{position-Some}
-use Rattle.std.proofs.lemmas.List.Sums.{count_by-le-length, length-filter}
-use Rattle.rc_tuple.specs.RisingSet.{In}
-use Rattle.rc_tuple.specs.RisingSetLaws.{in_filter, in_map}
-use Rattle.rc_spec.specs.declared.items.Edge.{Edge}
-use Rattle.rc_spec.specs.declared.items.Place.{Place}
-use Rattle.rc_spec.specs.declared.spec.Spec.{Spec}
-use Rattle.rc_spec.specs.Acceptance.{IsSealed}
-use Rattle.rc_spec.specs.Decomposition.{edge_at, no_edge}
-use Rattle.rc_spec.specs.DecompositionLaws.{edge_at_in, edge_among}
-use Rattle.rc_spec.specs.InRange.{HasColumnAndNode, IsEdgeAmong, IsInRange, IsPlaceAmong}
-use Rattle.rc_inline.specs.Contraction.{contracted, edges_into, edges_out_of, first_inlinable, is_inlinable, is_singleton, renumbered_place, rejoined, renumbered}
-use Rattle.rc_inline.specs.RemovedLaws.{in_removed, others_fail}
+use Rattle.rc_inline.proofs.Imports.{remove, eq-eqb, eqb-true, eqb-false, ltb-true, ltb-false, not-true, length-map, length-remove, position-Some, count_by-le-length, length-filter, In, in_filter, in_map, Edge, Place, Spec, IsSealed, edge_at, no_edge, edge_at_in, edge_among, HasColumnAndNode, IsEdgeAmong, IsInRange, IsPlaceAmong, contracted, edges_into, edges_out_of, first_inlinable, is_inlinable, is_singleton, renumbered_place, rejoined, renumbered, in_removed, others_fail}
 
 both : (a b : Bool) → (a && b) ≡ true → (a ≡ true) × (b ≡ true)
 both true true e = (refl, refl)

@@ -1,20 +1,9 @@
 -- The edges of a contraction have the sources and keys that they had, and targets that bind no less.
 use Rattle.std.proofs.Common.{◌≡◌, ◌==◌, ℕ, ◌<◌, Bool, true, false, if◌then◌else◌, Some, length, ap, ◌∙◌, subst, refl}
-use Rattle.std.specs.List.{remove}
-use Rattle.std.proofs.lemmas.Bool.{eq-eqb, eqb-true, eqb-false}
-use Rattle.rc_tuple.specs.ColSet.{Within, union}
-use Rattle.rc_tuple.specs.ColSetLaws.{union_left}
-use Rattle.rc_tuple.specs.RisingSet.{In}
-use Rattle.rc_tuple.specs.RisingSetLaws.{get_or_in}
-use Rattle.rc_spec.specs.declared.items.Edge.{Edge}
-use Rattle.rc_spec.specs.declared.spec.Spec.{Spec}
-use Rattle.rc_spec.specs.Acceptance.{IsSealed}
-use Rattle.rc_spec.specs.Decomposition.{bound, edge_at, no_edge, source_and_key}
-use Rattle.rc_inline.specs.Contraction.{contracted, first_inlinable}
+use Rattle.rc_inline.proofs.Imports.{remove, eq-eqb, eqb-true, eqb-false, Within, union, union_left, In, get_or_in, Edge, Spec, IsSealed, bound, edge_at, no_edge, source_and_key, contracted, first_inlinable, others_fail}
 use Rattle.rc_inline.proofs.BackLemmas.{before, get_removed}
 use Rattle.rc_inline.proofs.ContractionLemmas.{apart, found_known, one_out}
 use Rattle.rc_inline.proofs.KeptLemmas.{bound_kept, edge_kept, within}
-use Rattle.rc_inline.specs.RemovedLaws.{others_fail}
 
 module _ (spec : Spec) (f : ℕ) (sealed : IsSealed spec) (found : first_inlinable spec ≡ Some f) where
   abbrev after : Spec

@@ -1,21 +1,9 @@
 -- A contraction leaves a graph: one root, no circle, and an edge into each other node.
 use Rattle.std.proofs.Common.{◌≡◌, ◌==◌, ℕ, zero, suc, ◌+◌, ◌-◌, ◌<◌, Bool, true, false, cond, if◌then◌else◌, nat_lt, List, [], ◌∷◌, Some, get_or, length, refl, sym, ap, ◌∙◌, subst, ◌⊎◌, inl, inr, arith}
-use Rattle.std.specs.List.{count_by, remove}
-use Rattle.std.proofs.lemmas.Bool.{eq-eqb, eqb-true, eqb-false, ne_eqb}
-use Rattle.std.proofs.lemmas.List.Sums.{sum_by-cons}
-use Rattle.rc_tuple.specs.RisingSet.{In}
-use Rattle.rc_tuple.specs.RisingSetLaws.{in_map, map_in}
-use Rattle.rc_spec.specs.declared.items.Edge.{Edge}
-use Rattle.rc_spec.specs.declared.spec.Spec.{Spec}
-use Rattle.rc_spec.specs.Acceptance.{IsSealed}
-use Rattle.rc_spec.specs.Adequacy.{HasEdgeInto, HasEdgeOutOf, IsRoot, KeepsA1, KeepsA2}
-use Rattle.rc_spec.specs.Decomposition.{bound, edge_at, no_edge, IsCircle, IsWalk, LiesOn, LiesOnCircle}
-use Rattle.rc_spec.specs.DecompositionLaws.{edge_at_in}
-use Rattle.rc_inline.specs.Contraction.{contracted, first_inlinable, rejoined, renumbered}
+use Rattle.rc_inline.proofs.Imports.{count_by, remove, eq-eqb, eqb-true, eqb-false, ne_eqb, sum_by-cons, In, in_map, map_in, Edge, Spec, IsSealed, HasEdgeInto, HasEdgeOutOf, IsRoot, KeepsA1, KeepsA2, bound, edge_at, no_edge, IsCircle, IsWalk, LiesOn, LiesOnCircle, edge_at_in, contracted, first_inlinable, rejoined, renumbered, in_removed, others_fail}
 use Rattle.rc_inline.proofs.BackLemmas.{before, before_other, before_renumbered, before_within, renumbered_before}
 use Rattle.rc_inline.proofs.ContractionLemmas.{among, apart, found_known, left, one_in, one_out}
 use Rattle.rc_inline.proofs.KeptLemmas.{bound_kept}
-use Rattle.rc_inline.specs.RemovedLaws.{in_removed, others_fail}
 
 -- an element is the one that goes, or one of those that are left
 gone_or_left : {A : Type 0} (xs : List A) (i : ℕ) (d x : A) → In x xs → (x ≡ get_or xs i d) ⊎ In x (remove xs i)

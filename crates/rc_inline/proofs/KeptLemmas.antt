@@ -1,16 +1,6 @@
 -- What a contraction leaves of nodes, edges and placements, by the numbers that they had before.
 use Rattle.std.proofs.Common.{◌≡◌, ◌==◌, ℕ, zero, suc, ◌<◌, Bool, true, false, not, if◌then◌else◌, List, [], ◌∷◌, Some, get_or, filter, map, length, refl, sym, ap, ◌∙◌, arith}
-use Rattle.std.specs.List.{find, remove}
-use Rattle.std.specs.Option.{option_map_or}
-use Rattle.std.proofs.lemmas.Bool.{eq-eqb, eqb-true, eqb-false, ne_eqb}
-use Rattle.std.proofs.lemmas.List.{length-map}
-use Rattle.rc_spec.specs.declared.items.Edge.{Edge}
-use Rattle.rc_spec.specs.declared.items.Place.{Place}
-use Rattle.rc_spec.specs.declared.spec.Spec.{Spec}
-use Rattle.rc_spec.specs.Acceptance.{IsSealed}
-use Rattle.rc_spec.specs.Decomposition.{bound, edge_at, no_edge, no_node, node_at}
-use Rattle.rc_spec.specs.Placement.{class_of, places_of}
-use Rattle.rc_inline.specs.Contraction.{contracted, first_inlinable, renumbered_place, rejoined, renumbered}
+use Rattle.rc_inline.proofs.Imports.{find, remove, option_map_or, eq-eqb, eqb-true, eqb-false, ne_eqb, length-map, Edge, Place, Spec, IsSealed, bound, edge_at, no_edge, no_node, node_at, class_of, places_of, contracted, first_inlinable, renumbered_place, rejoined, renumbered}
 use Rattle.rc_inline.proofs.BackLemmas.{before, before_other, before_renumbered, before_within, get_removed, renumbered_before}
 use Rattle.rc_inline.proofs.ContractionLemmas.{among, fewer, found_known}
 

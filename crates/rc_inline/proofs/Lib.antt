@@ -8,3 +8,4 @@ mod GraphLemmas
 mod KeptLemmas
 mod PlacementLemmas
 mod VisitedLemmas
+mod Imports

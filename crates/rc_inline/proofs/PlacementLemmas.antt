@@ -1,13 +1,6 @@
 -- A contraction keeps the rules of placement and of operations.
 use Rattle.std.proofs.Common.{◌≡◌, ◌==◌, ℕ, ◌<◌, ◌≤◌, Bool, true, false, if◌then◌else◌, Some, length, sym, ap, ◌∙◌, subst, refl, arith}
-use Rattle.std.proofs.lemmas.Bool.{eqb-true}
-use Rattle.rc_tuple.specs.ColSet.{Within}
-use Rattle.rc_spec.specs.declared.items.Edge.{Edge}
-use Rattle.rc_spec.specs.declared.spec.Spec.{Spec}
-use Rattle.rc_spec.specs.Acceptance.{IsSealed}
-use Rattle.rc_spec.specs.Decomposition.{bound, edge_at, source_and_key}
-use Rattle.rc_spec.specs.Placement.{IsPlaced, KeepsO, KeepsP1, KeepsP2, KeepsP3, KeepsP5, class_at, class_of, op_at, striping}
-use Rattle.rc_inline.specs.Contraction.{contracted, first_inlinable}
+use Rattle.rc_inline.proofs.Imports.{eqb-true, Within, Edge, Spec, IsSealed, bound, edge_at, source_and_key, IsPlaced, KeepsO, KeepsP1, KeepsP2, KeepsP3, KeepsP5, class_at, class_of, op_at, striping, contracted, first_inlinable}
 use Rattle.rc_inline.proofs.BackLemmas.{before, before_renumbered}
 use Rattle.rc_inline.proofs.ContractionLemmas.{found_known}
 use Rattle.rc_inline.proofs.EdgeLemmas.{from_other, led_other, source_and_key_kept, source_kept}

@@ -1,12 +1,6 @@
 -- What the first edges reach and visit, edge by edge.
 use Rattle.std.proofs.Common.{◌≡◌, ℕ, zero, suc, ◌<◌, List, [], ◌∷◌, get_or, length, map, take, sym, ap, subst, inl, inr, arith, refl, ◌∙◌}
-use Rattle.std.specs.Ordering.{nat_cmp}
-use Rattle.rc_tuple.specs.RisingSet.{In}
-use Rattle.rc_tuple.specs.RisingSetLaws.{flat_map_in, gather_in, in_flat_map, in_gather, in_map, map_in, nat_order}
-use Rattle.rc_spec.specs.declared.items.Edge.{Edge}
-use Rattle.rc_spec.specs.declared.spec.Spec.{Spec}
-use Rattle.rc_spec.specs.Adequacy.{visited}
-use Rattle.rc_spec.specs.Decomposition.{bound, edge_at, no_edge}
+use Rattle.rc_inline.proofs.Imports.{nat_cmp, In, flat_map_in, gather_in, in_flat_map, in_gather, in_map, map_in, nat_order, Edge, Spec, visited, bound, edge_at, no_edge}
 
 -- ---- the first elements
 

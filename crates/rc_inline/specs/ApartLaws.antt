@@ -1,8 +1,6 @@
 -- What an embedded store makes of a specification doesn't depend on its operations.
 use Rattle.std.proofs.Common.{◌≡◌, ◌∙◌, ℕ, zero, suc, Bool, true, false, List, Option, Some, None, if◌then◌else◌, ap, length, refl}
-use Rattle.std.specs.Option.{option_map_or}
-use Rattle.rc_spec.specs.declared.items.Op.{Op}
-use Rattle.rc_spec.specs.declared.spec.Spec.{Spec}
+use Rattle.rc_inline.specs.Imports.{option_map_or, Op, Spec}
 use Rattle.rc_inline.specs.Contraction.{contracted, first_inlinable}
 use Rattle.rc_inline.specs.Inlining.{inlined, inlined_in}
 use Rattle.rc_inline.specs.Placing.{co_placed, embedded, is_ordered, placed_together}

@@ -1,13 +1,8 @@
 -- Which edges can be inlined, and what their contraction leaves of a specification. (Of graphs: edge
 -- contraction.)
 use Rattle.std.specs.Prelude.{ℕ, ◌-◌, ◌==◌, ◌&&◌, nat_lt, not, Bool, true, false, map, filter, Option, if◌then◌else◌}
-use Rattle.std.specs.List.{count_by, position, remove}
-use Rattle.rc_spec.specs.declared.items.Edge.{Edge}
-use Rattle.rc_spec.specs.declared.items.EdgeKind.{EdgeKind}
-use Rattle.rc_spec.specs.declared.items.EdgeKind.TheVariants.{Hash, List as Listed, Ordered, Singleton}
-use Rattle.rc_spec.specs.declared.items.Place.{Place}
-use Rattle.rc_spec.specs.declared.spec.Spec.{Spec}
-use Rattle.rc_spec.specs.Decomposition.{edge_at}
+use Rattle.rc_inline.specs.Imports.{count_by, position, remove, Edge, EdgeKind, Hash, Ordered, Singleton, Place, Spec, edge_at}
+use Rattle.rc_spec.specs.declared.items.EdgeKind.TheVariants.{List as Listed}
 
 -- how many edges lead to the node, and from it
 abbrev pub edges_into : Spec → ℕ → ℕ

@@ -1,7 +1,6 @@
 -- What inlining makes of a specification.
 use Rattle.std.specs.Prelude.{◌≡◌, ℕ, zero, suc, length}
-use Rattle.std.specs.Option.{option_map_or}
-use Rattle.rc_spec.specs.declared.spec.Spec.{Spec}
+use Rattle.rc_inline.specs.Imports.{option_map_or, Spec}
 use Rattle.rc_inline.specs.Contraction.{contracted, first_inlinable}
 
 -- at most so many contractions, each of the first edge that can be inlined

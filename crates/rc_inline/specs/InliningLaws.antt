@@ -1,17 +1,9 @@
 -- Inlining keeps what it need not change, and ends where nothing can be inlined.
 use Rattle.std.proofs.Common.{◌≡◌, ◌↔◌, ◌∙◌, ℕ, zero, suc, ◌+◌, List, Option, None, Some, ap, length, refl, sym, arith}
-use Rattle.std.specs.List.{remove}
-use Rattle.std.specs.Option.{option_map_or}
+use Rattle.rc_inline.specs.Imports.{remove, option_map_or, Pairs, Call, Spec, Fits, edge_at, no_edge, IsWellNamed, plain}
 use Rattle.std.proofs.lemmas.List.{length-map}
 use Rattle.std.proofs.lemmas.List.Edits.{length-remove}
 use Rattle.std.proofs.lemmas.List.Quantifiers.{position-Some}
-use Rattle.rc_tuple.specs.Tuple.{Pairs}
-use Rattle.rc_spec.specs.declared.call.Call.{Call}
-use Rattle.rc_spec.specs.declared.spec.Spec.{Spec}
-use Rattle.rc_spec.specs.Calls.{Fits}
-use Rattle.rc_spec.specs.Decomposition.{edge_at, no_edge}
-use Rattle.rc_spec.specs.Names.{IsWellNamed}
-use Rattle.rc_spec.specs.Plain.{plain}
 use Rattle.rc_inline.specs.Contraction.{contracted, first_inlinable, is_inlinable, rejoined}
 use Rattle.rc_inline.specs.Inlining.{HasItsSchema, inlined, inlined_in}
 use Rattle.rc_inline.specs.NamesLaws.{contracted_named}

@@ -8,3 +8,4 @@ pub mod PlacingLaws
 pub mod RemovedLaws
 pub mod SchemaLaws
 pub mod WidestLaws
+pub mod Imports

@@ -1,10 +1,6 @@
 -- The names of what is left.
 use Rattle.std.proofs.Common.{◌≡◌, ℕ, List, [], ◌∷◌, map, refl, sym, ap, ◌∙◌, subst}
-use Rattle.std.specs.List.{remove}
-use Rattle.rc_spec.specs.declared.items.Edge.{Edge}
-use Rattle.rc_spec.specs.declared.spec.Spec.{Spec}
-use Rattle.rc_spec.specs.Decomposition.{edge_at}
-use Rattle.rc_spec.specs.Names.{AreNames, IsWellNamed, edge_names, node_names}
+use Rattle.rc_inline.specs.Imports.{remove, Edge, Spec, edge_at, AreNames, IsWellNamed, edge_names, node_names}
 use Rattle.rc_inline.specs.Contraction.{contracted, rejoined}
 use Rattle.rc_inline.specs.RemovedLaws.{distinct_removed, in_removed, map-removed}
 

@@ -1,14 +1,7 @@
 -- Edges that are placed on one class where several have the same columns: any class whose columns choose the stripe of an
 -- edge's rows can guard it. (PLDI 2012, lock placement.)
 use Rattle.std.specs.Prelude.{ℕ, ◌==◌, ◌&&◌, ◌||◌, Bool, List, if◌then◌else◌, get_or, length, map, nat_le, not}
-use Rattle.std.specs.List.{list_all, position, range_with_len}
-use Rattle.std.specs.Option.{option_map_or}
-use Rattle.rc_tuple.specs.ColSet.{is_within}
-use Rattle.rc_spec.specs.declared.items.Class.{Class}
-use Rattle.rc_spec.specs.declared.items.Place.{Place}
-use Rattle.rc_spec.specs.declared.spec.Spec.{Spec}
-use Rattle.rc_spec.specs.Decomposition.{edge_at}
-use Rattle.rc_spec.specs.Placement.{class_of, no_class}
+use Rattle.rc_inline.specs.Imports.{list_all, position, range_with_len, option_map_or, is_within, Class, Place, Spec, edge_at, class_of, no_class}
 use Rattle.rc_inline.specs.Inlining.{inlined}
 
 -- the class has these columns

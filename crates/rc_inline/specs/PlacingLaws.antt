@@ -1,24 +1,7 @@
 -- What placing edges together keeps, and what it makes of their classes.
 use Rattle.std.proofs.Common.{◌≡◌, ◌↔◌, ◌==◌, ℕ, ◌<◌, ◌≤◌, Bool, true, false, not, nat_le, if◌then◌else◌, List, [], ◌∷◌, Some, filter, length, map, suc, refl, sym, ap, ◌∙◌, subst, inl, inr, arith}
-use Rattle.std.specs.List.{find, list_all, range_with_len}
-use Rattle.std.specs.Option.{option_map_or}
+use Rattle.rc_inline.specs.Imports.{find, list_all, range_with_len, option_map_or, in_range_below, in_range_bounds, In, in_list_all, list_all_in, Pairs, Call, Class, Place, Spec, IsSealed, Fits, edge_at, IsInRange, IsWellNamed, KeepsP1, KeepsP3, class_at, class_of, places_of, striping, class_of_known, plain}
 use Rattle.std.proofs.lemmas.Bool.{cases_eq, eqb-false, false_from_ne_true, le-leb, leb-true, ne_eqb, not-true, not_from_false, or_cases, or_left, or_right}
-use Rattle.rc_tuple.specs.ColSetLaws.{in_range_below, in_range_bounds}
-use Rattle.rc_tuple.specs.RisingSet.{In}
-use Rattle.rc_tuple.specs.RisingSetLaws.{in_list_all, list_all_in}
-use Rattle.rc_tuple.specs.Tuple.{Pairs}
-use Rattle.rc_spec.specs.declared.call.Call.{Call}
-use Rattle.rc_spec.specs.declared.items.Class.{Class}
-use Rattle.rc_spec.specs.declared.items.Place.{Place}
-use Rattle.rc_spec.specs.declared.spec.Spec.{Spec}
-use Rattle.rc_spec.specs.Acceptance.{IsSealed}
-use Rattle.rc_spec.specs.Calls.{Fits}
-use Rattle.rc_spec.specs.Decomposition.{edge_at}
-use Rattle.rc_spec.specs.InRange.{IsInRange}
-use Rattle.rc_spec.specs.Names.{IsWellNamed}
-use Rattle.rc_spec.specs.Placement.{KeepsP1, KeepsP3, class_at, class_of, places_of, striping}
-use Rattle.rc_spec.specs.PlacementLaws.{class_of_known}
-use Rattle.rc_spec.specs.Plain.{plain}
 use Rattle.rc_inline.specs.Contraction.{first_inlinable}
 use Rattle.rc_inline.specs.Inlining.{HasItsSchema, inlined}
 use Rattle.rc_inline.specs.InliningLaws.{inlined_named, inlined_schema}

@@ -1,9 +1,7 @@
 -- Lists from which an element was removed.
 use Rattle.std.proofs.Common.{◌≡◌, ℕ, zero, suc, ◌+◌, ◌<◌, Bool, true, false, cond, List, [], ◌∷◌, get_or, length, map, refl, sym, ap, ◌∙◌, inl, inr, arith}
-use Rattle.std.specs.List.{count_by, remove}
+use Rattle.rc_inline.specs.Imports.{count_by, remove, AreDistinct, In, get_or_in}
 use Rattle.std.proofs.lemmas.List.Sums.{sum_by-cons}
-use Rattle.rc_tuple.specs.RisingSet.{AreDistinct, In}
-use Rattle.rc_tuple.specs.RisingSetLaws.{get_or_in}
 
 pub in_removed : {A : Type 0} (xs : List A) (i : ℕ) (x : A) → In x (remove xs i) → In x xs
 in_removed [] zero x m = absurd m

@@ -1,15 +1,6 @@
 -- A call does the same by two specifications of one schema.
 use Rattle.std.proofs.Common.{◌≡◌, ◌↔◌, ℕ, List, length, ap, ◌∙◌, refl, sym}
-use Rattle.std.specs.List.{range_with_len, slice_get}
-use Rattle.std.specs.Ordering.{nat_cmp}
-use Rattle.rc_tuple.specs.RisingSet.{gather}
-use Rattle.rc_tuple.specs.Tuple.{Pairs}
-use Rattle.rc_spec.specs.declared.call.Call.{Call}
-use Rattle.rc_spec.specs.declared.items.OpKind.{OpKind}
-use Rattle.rc_spec.specs.declared.items.OpKind.TheVariants.{Query, Insert, Remove, Update}
-use Rattle.rc_spec.specs.declared.spec.Spec.{Spec}
-use Rattle.rc_spec.specs.Calls.{Fits, value_columns}
-use Rattle.rc_spec.specs.Plain.{plain, plain_at}
+use Rattle.rc_inline.specs.Imports.{range_with_len, slice_get, nat_cmp, gather, Pairs, Call, OpKind, Query, Insert, Remove, Update, Spec, Fits, value_columns, plain, plain_at}
 use Rattle.rc_inline.specs.Inlining.{HasItsSchema}
 
 pub schema_sym : (spec other : Spec) → HasItsSchema spec other → HasItsSchema other spec

@@ -1,16 +1,8 @@
 -- The widest class over some columns: there is one, and it has them.
 use Rattle.std.proofs.Common.{◌≡◌, ℕ, ◌+◌, ◌<◌, ◌≤◌, ◌&&◌, Bool, true, false, cond, not, nat_le, List, [], ◌∷◌, Option, None, Some, get_or, length, refl, sym, ap, ◌∙◌, subst, inl, inr, arith}
-use Rattle.std.specs.List.{position, position_or_len}
-use Rattle.std.specs.Option.{option_map_or}
-use Rattle.std.specs.Ordering.{nat_cmp}
+use Rattle.rc_inline.specs.Imports.{position, position_or_len, option_map_or, nat_cmp, In, get_or_in, in_list_all, list_all_in, nat_order, same_rising, IsColSet, is_within, test_from_within, within_from_test, Class, no_class}
 use Rattle.std.proofs.lemmas.Bool.{and_from, and_parts, cases_Bool, cases_lt, cond-true, false≢true, le-leb, leb-true, lt-ltb, not-true, not_from_false, or_cases, or_left, or_right}
 use Rattle.std.proofs.lemmas.List.Quantifiers.{position-Some}
-use Rattle.rc_tuple.specs.RisingSet.{In}
-use Rattle.rc_tuple.specs.RisingSetLaws.{get_or_in, in_list_all, list_all_in, nat_order, same_rising}
-use Rattle.rc_tuple.specs.ColSet.{IsColSet, is_within}
-use Rattle.rc_tuple.specs.ColSetLaws.{test_from_within, within_from_test}
-use Rattle.rc_spec.specs.declared.items.Class.{Class}
-use Rattle.rc_spec.specs.Placement.{no_class}
 use Rattle.rc_inline.specs.Placing.{is_no_wider, is_over, is_widest, widest}
 
 -- ---- an element of a list that passes a test, and isn't below any other that does

@@ -1,11 +1,7 @@
 -- Lists that are alike, one by one.
 use Rattle.std.specs.Prelude.{◌≡◌, ℕ, zero, suc, List, [], ◌∷◌, ◌++◌, Option, None, Some, length}
-use Rattle.std.specs.List.{AllZip, slice_get}
+use Rattle.rc_instance.proofs.Imports.{AllZip, slice_get, take_all, drop_all, In, FragmentRows, settled, table_of_fragments}
 use Rattle.std.proofs.Common.{inl, inr, refl, sym, ap, subst, ◌∙◌, arith, take, drop, append-nil}
-use Rattle.std.proofs.lemmas.List.{take_all, drop_all}
-use Rattle.rc_tuple.specs.RisingSet.{In}
-use Rattle.rc_fragment.specs.FragmentRows.{FragmentRows, settled}
-use Rattle.rc_instance.specs.Instance.{table_of_fragments}
 
 -- a list written back in place of one as long
 pub written : {A : Type 0} (n : ℕ) (new items : List A) → n ≡ length items → length new ≡ length items → take n (new ++ drop (length new) items) ≡ new

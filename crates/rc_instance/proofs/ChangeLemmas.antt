@@ -1,25 +1,7 @@
 -- A change of one stripe, as a holder's calls promise it.
 use Rattle.std.specs.Prelude.{◌≡◌, ℕ, zero, suc, max, ◌+◌, ◌-◌, ◌<◌, ◌≤◌, cond, List, [], ◌∷◌, ◌++◌, Option, None, Some, length, map}
-use Rattle.std.specs.List.{slice_get}
+use Rattle.rc_instance.proofs.Imports.{slice_get, set, eq-eqb, length-append, length-set, map-append, same_Some, slice_get_read, In, slice_get_in, Pairs, EdgeRow, Mode, Spec, FragmentRows, with_promise, NumberedRow, class_rows, IsAtRest, HeldStripe, LentStripe, AreOffered, CanLower, CanRaise, HasRoomFor, HasTaken, IsAbove, IsHeld, IsLent, IsPartlyAddedAt, held_of, just_taken, with_changes, with_changes_at, with_room, with_room_at, ArePartlyAdded, CanAddTuple, HasTuple, IsPartlyAdded, changed_by, changes_of_class, held_from, held_numbers, holding, lent_from, stripes_of, table_of, IsOfOneRelation, IsInstance, IsWholeInstance, Stripe, as_held, held_of-holding, lent_as, place_in}
 use Rattle.std.proofs.Common.{inl, refl, sym, ap, subst, ◌∙◌, arith, get_or}
-use Rattle.std.proofs.Math.ListN.{set}
-use Rattle.std.proofs.lemmas.Bool.{eq-eqb}
-use Rattle.std.proofs.lemmas.List.{length-append, length-set, map-append}
-use Rattle.std.proofs.lemmas.Option.{same_Some, slice_get_read}
-use Rattle.rc_tuple.specs.RisingSet.{In}
-use Rattle.rc_tuple.specs.RisingSetLaws.{slice_get_in}
-use Rattle.rc_tuple.specs.Tuple.{Pairs}
-use Rattle.rc_spec.specs.Fragments.{EdgeRow}
-use Rattle.rc_spec.specs.declared.lock.Mode.{Mode}
-use Rattle.rc_spec.specs.declared.spec.Spec.{Spec}
-use Rattle.rc_fragment.specs.FragmentRows.{FragmentRows, with_promise}
-use Rattle.rc_fragment.specs.Implied.{NumberedRow}
-use Rattle.rc_fragment.specs.ImpliedTables.{class_rows}
-use Rattle.rc_fragment.specs.Keep.{IsAtRest}
-use Rattle.rc_fragment.specs.Holder.{HeldStripe, LentStripe, AreOffered, CanLower, CanRaise, HasRoomFor, HasTaken, IsAbove, IsHeld, IsLent, IsPartlyAddedAt, held_of, just_taken, with_changes, with_changes_at, with_room, with_room_at}
-use Rattle.rc_fragment.specs.Tuples.{ArePartlyAdded, CanAddTuple, HasTuple, IsPartlyAdded, changed_by, changes_of_class}
-use Rattle.rc_instance.specs.Instance.{held_from, held_numbers, holding, lent_from, stripes_of, table_of, IsOfOneRelation, IsInstance, IsWholeInstance, Stripe}
-use Rattle.rc_instance.specs.InstanceLaws.{as_held, held_of-holding, lent_as, place_in}
 use Rattle.rc_instance.proofs.StripeLemmas.{IsHeldAs, above_is_free, held_as, held_below, held_not_free, instance-set, lent_from-set, lent_from-taken, lent_from_in, not_equal, sound-set, table_of-set, with_now-here, with_now-other}
 use Rattle.rc_instance.proofs.NumberLemmas.{numbers-lent, numbers-set, numbers_few}
 use Rattle.rc_instance.proofs.StripesOfLemmas.{mode_at, stripes_of-held, stripes_of-length, stripes_of-set, stripes_of-there}

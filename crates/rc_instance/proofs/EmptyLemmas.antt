@@ -1,21 +1,7 @@
 -- What stripes are that are free and whose fragments have no row.
 use Rattle.std.specs.Prelude.{◌≡◌, ℕ, zero, suc, ◌<◌, List, [], ◌∷◌, ◌++◌, Option, None, Some, length}
-use Rattle.std.specs.List.{slice_get}
+use Rattle.rc_instance.proofs.Imports.{slice_get, In, satisfies_none, IsSealed, empty_law, stripe_total, Mode, Spec, edge_table, FragmentRows, IsAtRest, EdgeShape, IsEmptyFragment, offered_at, rows_of_fragments, stripes_of, table_of_fragments, IsEmpty, IsInstance, IsOfRelation, no_table}
 use Rattle.std.proofs.Common.{inl, inr, refl, sym, ap, subst, ◌∙◌, arith, replicate}
-use Rattle.rc_tuple.specs.RisingSet.{In}
-use Rattle.rc_tuple.specs.RelationLaws.{satisfies_none}
-use Rattle.rc_spec.specs.Acceptance.{IsSealed}
-use Rattle.rc_spec.specs.FragmentsLaws.{empty_law}
-use Rattle.rc_spec.specs.Stripes.{stripe_total}
-use Rattle.rc_spec.specs.declared.lock.Mode.{Mode}
-use Rattle.rc_spec.specs.declared.spec.Spec.{Spec}
-use Rattle.rc_fragment.specs.Fragment.{edge_table}
-use Rattle.rc_fragment.specs.FragmentRows.{FragmentRows}
-use Rattle.rc_fragment.specs.Keep.{IsAtRest}
-use Rattle.rc_fragment.specs.declared.shape.EdgeShape.{EdgeShape}
-use Rattle.rc_instance.specs.Fragments.{IsEmptyFragment}
-use Rattle.rc_instance.specs.Instance.{offered_at, rows_of_fragments, stripes_of, table_of_fragments, IsEmpty, IsInstance, IsOfRelation}
-use Rattle.rc_instance.specs.InstanceLaws.{no_table}
 use Rattle.rc_instance.proofs.StripesOfLemmas.{instance_of, none_held, stripes_of-length, stripes_of-offered, stripes_of-rows, stripes_of-table, taken_of}
 
 -- ---- the table, also where there is no stripe

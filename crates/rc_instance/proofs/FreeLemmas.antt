@@ -1,15 +1,7 @@
 -- What stripes are once all are free and have their rows now as taken.
 use Rattle.std.specs.Prelude.{◌≡◌, ℕ, List, [], ◌∷◌, ◌++◌, Option, None, Some}
-use Rattle.std.specs.List.{AllZip, slice_get}
+use Rattle.rc_instance.proofs.Imports.{AllZip, slice_get, AllZip-long, slice_get_in, Mode, FragmentRows, IsHeld, IsAtRest, held_from, offered_at, rows_of_fragments, stripes_of, taken_in, AreReleased, IsInstance, Stripe, IsHeldFrom, in_held_from, as_held, held_from_in}
 use Rattle.std.proofs.Common.{refl, sym, ap, ◌∙◌, arith, replicate}
-use Rattle.std.proofs.lemmas.Slice.Zip.{AllZip-long}
-use Rattle.rc_tuple.specs.RisingSetLaws.{slice_get_in}
-use Rattle.rc_spec.specs.declared.lock.Mode.{Mode}
-use Rattle.rc_fragment.specs.FragmentRows.{FragmentRows}
-use Rattle.rc_fragment.specs.Holder.{IsHeld}
-use Rattle.rc_fragment.specs.Keep.{IsAtRest}
-use Rattle.rc_instance.specs.Instance.{held_from, offered_at, rows_of_fragments, stripes_of, taken_in, AreReleased, IsInstance, Stripe}
-use Rattle.rc_instance.specs.InstanceLaws.{IsHeldFrom, in_held_from, as_held, held_from_in}
 use Rattle.rc_instance.proofs.AlikeLemmas.{IsSettled, OfOneTable, alike_at, alike_in, alike_one_table, alike_table}
 use Rattle.rc_instance.proofs.StripesOfLemmas.{fragments_have_one_table, instance_of, none_held, now_in, now_of, room_of, stripes_of-length, stripes_of-now, stripes_of-offered, stripes_of-room, stripes_of-rows, stripes_of-table, taken_of}
 

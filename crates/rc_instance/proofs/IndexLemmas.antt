@@ -1,21 +1,9 @@
 -- What a change of one key is to the tuples at each, and what an index adds up to.
 use Rattle.std.specs.Prelude.{◌≡◌, ℕ, ◌+◌, ◌<◌, Bool, true, false, Option, Some, List, [], ◌∷◌, ◌++◌, cond, take, get_or, length}
-use Rattle.std.specs.Borrow.{Bor}
+use Rattle.rc_instance.proofs.Imports.{Bor, flat_map, lookup, KeepsOthers, append-nil, map-append, take-suc, In, gather, in_append, Within, Pairs, IsTuple, cols_of, merges_of, project, tuple_cmp, tuple_eq, rising_pairs, same_from_test, join_by_columns, join, Entries, IsAdded, IsIndexed, found_at, tuples_in, tuples_of, whole_of}
 use Rattle.std.specs.FinMap as fin
-use Rattle.std.specs.List.{flat_map}
-use Rattle.std.specs.Map.{lookup, KeepsOthers}
 use Rattle.std.proofs.Common.{Vec, Global, refl, sym, ap, subst, inl, inr, add-one, ◌∙◌}
-use Rattle.std.proofs.lemmas.List.{append-nil, map-append}
-use Rattle.std.proofs.Math.Seq.{take-suc}
-use Rattle.rc_tuple.specs.RisingSet.{In, gather}
-use Rattle.rc_tuple.specs.RisingSetLaws.{in_append}
-use Rattle.rc_tuple.specs.ColSet.{Within}
-use Rattle.rc_tuple.specs.Tuple.{Pairs, IsTuple, cols_of, merges_of, project, tuple_cmp, tuple_eq}
-use Rattle.rc_tuple.specs.TupleLaws.{rising_pairs, same_from_test}
 use Rattle.rc_instance.proofs.TupleKeys.{Key, get-whole, get-written, key_eq, pointwise_same, test, whole-changed, written}
-use Rattle.rc_spec.specs.JoinLaws.{join_by_columns}
-use Rattle.rc_spec.specs.Contents.{join}
-use Rattle.rc_instance.specs.Index.{Entries, IsAdded, IsIndexed, found_at, tuples_in, tuples_of, whole_of}
 
 abbrev Tuples : Type 0
 Tuples = Vec (Bor Pairs) Global

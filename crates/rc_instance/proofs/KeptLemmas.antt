@@ -1,11 +1,6 @@
 -- The fragments of an instance none of whose stripes is held.
 use Rattle.std.proofs.Common.{◌≡◌, ℕ, suc, List, [], ◌∷◌, length, map, Option, Some, None, refl, ap, inl, inr}
-use Rattle.std.specs.List.{AllByRecursion}
-use Rattle.rc_tuple.specs.RisingSet.{In}
-use Rattle.rc_spec.specs.declared.lock.Mode.{Mode}
-use Rattle.rc_fragment.specs.FragmentRows.{FragmentRows}
-use Rattle.rc_fragment.specs.Keep.{IsAtRest, KeptRows, kept_rows}
-use Rattle.rc_instance.specs.Instance.{Stripe, held_from, kept_stripe, stripes_of}
+use Rattle.rc_instance.proofs.Imports.{AllByRecursion, In, Mode, FragmentRows, IsAtRest, KeptRows, kept_rows, Stripe, held_from, kept_stripe, stripes_of}
 
 -- no change of any of them is pending
 pub free_at_rest : (n : ℕ) (fs : List FragmentRows) (ms : List (Option Mode)) → held_from n (stripes_of fs ms) ≡ []

@@ -10,3 +10,4 @@ mod StripeLemmas
 mod StripesOfLemmas
 mod NumberLemmas
 mod KeptLemmas
+mod Imports

@@ -1,21 +1,8 @@
 -- The numbers of the held stripes, and lists changed at them.
 use Rattle.std.specs.Prelude.{◌≡◌, ℕ, zero, suc, ◌+◌, ◌<◌, ◌≤◌, List, [], ◌∷◌, ◌++◌, ◌⊎◌, Option, None, Some, length, map}
-use Rattle.std.specs.List.{AllZip, slice_get}
+use Rattle.rc_instance.proofs.Imports.{AllZip, slice_get, set, length-append, length-map, same_Some, In, slice_get_in, in_append, append_in_left, append_in_right, AreBelow, Mode, FragmentRows, rolled_back, settled, LentStripe, IsAtRest, each_at, with_at, held_numbers, lent_part, lent_from, number_part, stripes_of, AreReleased, IsInstance, IsWholeInstance, Stripe, place_in}
 use Rattle.std.proofs.Common.{inl, inr, refl, sym, ap, subst, ◌∙◌, arith, replicate}
-use Rattle.std.proofs.Math.ListN.{set}
-use Rattle.std.proofs.lemmas.List.{length-append, length-map}
-use Rattle.std.proofs.lemmas.Option.{same_Some}
-use Rattle.rc_tuple.specs.RisingSet.{In}
-use Rattle.rc_tuple.specs.RisingSetLaws.{slice_get_in, in_append, append_in_left, append_in_right}
-use Rattle.rc_spec.specs.InRange.{AreBelow}
-use Rattle.rc_spec.specs.declared.lock.Mode.{Mode}
-use Rattle.rc_fragment.specs.FragmentRows.{FragmentRows, rolled_back, settled}
-use Rattle.rc_fragment.specs.Holder.{LentStripe}
-use Rattle.rc_fragment.specs.Keep.{IsAtRest}
-use Rattle.rc_instance.specs.Fragments.{each_at, with_at}
 use Rattle.rc_instance.proofs.AlikeLemmas.{IsSettled}
-use Rattle.rc_instance.specs.Instance.{held_numbers, lent_part, lent_from, number_part, stripes_of, AreReleased, IsInstance, IsWholeInstance, Stripe}
-use Rattle.rc_instance.specs.InstanceLaws.{place_in}
 use Rattle.rc_instance.proofs.FreeLemmas.{released, released_instance}
 use Rattle.rc_instance.proofs.RevertLemmas.{instance-reverted, reverted_stripe, stripes_of-reverted}
 use Rattle.rc_instance.proofs.StripesOfLemmas.{mode_at, stripes_of-length, stripes_of-there}

@@ -1,21 +1,7 @@
 -- The join of the rows of all edges, edge by edge and fragment by fragment.
 use Rattle.std.specs.Prelude.{◌≡◌, ℕ, ◌+◌, ◌<◌, List, [], ◌∷◌, ◌++◌, length, map}
-use Rattle.std.specs.List.{range_with_len}
+use Rattle.rc_instance.proofs.Imports.{range_with_len, flat_map-append, take_more, map-range_with_len_more, In, same_rising, in_append, append_in_left, append_in_right, Pairs, tuple_cmp, tuple_order, join, join_all, EdgeRow, tuples_of_edge, in_tuples_of_edge, tuples_of_edge_in, IsJoined, in_join, join_in, rising_join, AreAllRows, IsThere, FragmentRows, rows_of_fragments}
 use Rattle.std.proofs.Common.{inl, inr, refl, sym, ap, subst, ◌∙◌, arith, take, get_or, append-nil}
-use Rattle.std.proofs.lemmas.Grind.{flat_map-append}
-use Rattle.std.proofs.lemmas.List.{take_more}
-use Rattle.std.proofs.lemmas.List.FromFn.{map-range_with_len_more}
-use Rattle.rc_tuple.specs.RisingSet.{In}
-use Rattle.rc_tuple.specs.RisingSetLaws.{same_rising, in_append, append_in_left, append_in_right}
-use Rattle.rc_tuple.specs.Tuple.{Pairs, tuple_cmp}
-use Rattle.rc_tuple.specs.TupleLaws.{tuple_order}
-use Rattle.rc_spec.specs.Contents.{join, join_all}
-use Rattle.rc_spec.specs.Fragments.{EdgeRow, tuples_of_edge}
-use Rattle.rc_spec.specs.FragmentsLaws.{in_tuples_of_edge, tuples_of_edge_in}
-use Rattle.rc_spec.specs.HeathLaws.{IsJoined, in_join, join_in, rising_join}
-use Rattle.rc_fragment.specs.Fragment.{AreAllRows, IsThere}
-use Rattle.rc_fragment.specs.FragmentRows.{FragmentRows}
-use Rattle.rc_instance.specs.Instance.{rows_of_fragments}
 
 -- ---- the rows of an edge, fragment by fragment
 

@@ -1,14 +1,7 @@
 -- What all stripes are once each has its rows as they were taken.
 use Rattle.std.specs.Prelude.{◌≡◌, ℕ, zero, suc, List, [], ◌∷◌, ◌++◌, Option, None, Some, map}
 use Rattle.std.proofs.Common.{refl, sym, ap, ◌∙◌}
-use Rattle.std.proofs.lemmas.List.{map-append, length-map}
-use Rattle.rc_tuple.specs.RisingSet.{In}
-use Rattle.rc_tuple.specs.RisingSetLaws.{in_map}
-use Rattle.rc_spec.specs.declared.lock.Mode.{Mode}
-use Rattle.rc_spec.specs.declared.spec.Spec.{Spec}
-use Rattle.rc_fragment.specs.FragmentRows.{FragmentRows, rolled_back}
-use Rattle.rc_fragment.specs.Holder.{all_reverted, lent_reverted}
-use Rattle.rc_instance.specs.Instance.{holding, lent_part, lent_from, offered_at, stripes_of, table_of, IsInstance, IsOfOneRelation, Stripe}
+use Rattle.rc_instance.proofs.Imports.{map-append, length-map, In, in_map, Mode, Spec, FragmentRows, rolled_back, all_reverted, lent_reverted, holding, lent_part, lent_from, offered_at, stripes_of, table_of, IsInstance, IsOfOneRelation, Stripe}
 use Rattle.rc_instance.proofs.StripeLemmas.{same_sound}
 
 -- the stripe with its rows as they were taken

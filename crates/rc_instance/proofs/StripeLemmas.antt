@@ -1,21 +1,7 @@
 -- What a change of one stripe leaves of an instance.
 use Rattle.std.specs.Prelude.{◌≡◌, ℕ, zero, suc, ◌+◌, ◌<◌, Bool, true, false, cond, ◌==◌, List, [], ◌∷◌, ◌++◌, ◌⊎◌, Option, None, Some, Result, Ok, Err, IfOk, OnOk, OnErr, length, map}
-use Rattle.std.specs.List.{slice_get}
+use Rattle.rc_instance.proofs.Imports.{slice_get, set, eqb-true, eq-eqb, append_assoc, length-set, map-append, none-some, same_Some, slice_get_within, In, slice_get_in, append_in_left, append_in_right, map_in, EdgeRow, Mode, Spec, FragmentRows, HeldStripe, LentStripe, IsHeld, IsHeldExclusive, IsAbove, with_now, IsAtRest, held_part, held_from, lent_part, lent_from, offered_at, table_of, IsOfOneRelation, IsInstance, Stripe, IsHeldFrom, in_held_from, as_held, held_from_in, held-lent, lent_as}
 use Rattle.std.proofs.Common.{inl, inr, refl, sym, ap, subst, ◌∙◌, arith}
-use Rattle.std.proofs.Math.ListN.{set}
-use Rattle.std.proofs.lemmas.Bool.{eqb-true, eq-eqb}
-use Rattle.std.proofs.lemmas.List.{append_assoc, length-set, map-append}
-use Rattle.std.proofs.lemmas.Option.{none-some, same_Some, slice_get_within}
-use Rattle.rc_tuple.specs.RisingSet.{In}
-use Rattle.rc_tuple.specs.RisingSetLaws.{slice_get_in, append_in_left, append_in_right, map_in}
-use Rattle.rc_spec.specs.Fragments.{EdgeRow}
-use Rattle.rc_spec.specs.declared.lock.Mode.{Mode}
-use Rattle.rc_spec.specs.declared.spec.Spec.{Spec}
-use Rattle.rc_fragment.specs.FragmentRows.{FragmentRows}
-use Rattle.rc_fragment.specs.Holder.{HeldStripe, LentStripe, IsHeld, IsHeldExclusive, IsAbove, with_now}
-use Rattle.rc_fragment.specs.Keep.{IsAtRest}
-use Rattle.rc_instance.specs.Instance.{held_part, held_from, lent_part, lent_from, offered_at, table_of, IsOfOneRelation, IsInstance, Stripe}
-use Rattle.rc_instance.specs.InstanceLaws.{IsHeldFrom, in_held_from, as_held, held_from_in, held-lent, lent_as}
 
 -- ---- held stripes by their numbers
 

@@ -1,16 +1,7 @@
 -- Stripes that are put together from fragments and how they are held.
 use Rattle.std.specs.Prelude.{◌≡◌, ℕ, zero, suc, ◌<◌, List, [], ◌∷◌, ◌++◌, Option, None, Some, length, map}
-use Rattle.std.specs.List.{slice_get}
+use Rattle.rc_instance.proofs.Imports.{slice_get, set, same_Some, In, in_map, EdgeRow, Mode, FragmentRows, IsAtRest, KeptRows, at_rest, held_from, HaveOneTable, kept_stripe, offered_at, room_at, room_in, rows_of, rows_of_fragments, stripes_of, table_of, table_of_fragments, taken_in, IsInstance, Stripe}
 use Rattle.std.proofs.Common.{inl, inr, refl, sym, ap, subst, ◌∙◌, arith, get_or, replicate}
-use Rattle.std.proofs.Math.ListN.{set}
-use Rattle.std.proofs.lemmas.Option.{same_Some}
-use Rattle.rc_tuple.specs.RisingSet.{In}
-use Rattle.rc_tuple.specs.RisingSetLaws.{in_map}
-use Rattle.rc_spec.specs.Fragments.{EdgeRow}
-use Rattle.rc_spec.specs.declared.lock.Mode.{Mode}
-use Rattle.rc_fragment.specs.FragmentRows.{FragmentRows}
-use Rattle.rc_fragment.specs.Keep.{IsAtRest, KeptRows, at_rest}
-use Rattle.rc_instance.specs.Instance.{held_from, HaveOneTable, kept_stripe, offered_at, room_at, room_in, rows_of, rows_of_fragments, stripes_of, table_of, table_of_fragments, taken_in, IsInstance, Stripe}
 use Rattle.rc_instance.proofs.AlikeLemmas.{OfOneTable}
 
 -- ---- what is seen of them

@@ -1,15 +1,9 @@
 -- Laws of a hash map from the pairs of tuples: what a look-up finds, and what a change of one key is.
 use Rattle.std.specs.Prelude.{◌≡◌, ℕ, Bool, true, false, cond, ◌&&◌, Option, None, Some, List, [], ◌∷◌, map, nat_eq}
-use Rattle.std.specs.Bool.{Decides}
-use Rattle.std.specs.Cmp.{IsTotalOrder}
-use Rattle.std.specs.Cmp.Lexicographic.{pointwise, pointwise_decides}
+use Rattle.rc_instance.proofs.Imports.{Decides, IsTotalOrder, pointwise, pointwise_decides, FinMap, find, same_map, get-from_entries, get-insert, get-remove, lookup, IsKeyTest, AreApart, same_from_decides, Decides-eqb, Decides-and, Decides-like, Pairs, tuple_cmp, tuple_eq, tuple_order, same_from_test, test_from_same}
 use Rattle.std.specs.FinMap as fin
-use Rattle.std.specs.FinMap.{FinMap, find, same_map, get-from_entries, get-insert, get-remove}
-use Rattle.std.specs.Map.{lookup, KeepsOthers, IsKeyTest, AreApart}
+use Rattle.std.specs.Map.{KeepsOthers}
 use Rattle.std.proofs.Common.{Vec, Global, refl, sym, ap, ◌∙◌}
-use Rattle.std.proofs.lemmas.Bool.Decides.{same_from_decides, Decides-eqb, Decides-and, Decides-like}
-use Rattle.rc_tuple.specs.Tuple.{Pairs, tuple_cmp, tuple_eq}
-use Rattle.rc_tuple.specs.TupleLaws.{tuple_order, same_from_test, test_from_same}
 
 abbrev pub Key : Type 0
 Key = Vec (ℕ × ℕ) Global

@@ -1,7 +1,6 @@
 -- What becomes of the fragments of an instance where several change at once.
 use Rattle.std.specs.Prelude.{◌≡◌, ℕ, zero, suc, List, [], ◌∷◌}
-use Rattle.rc_fragment.specs.FragmentRows.{FragmentRows, no_rows}
-use Rattle.rc_fragment.specs.declared.shape.EdgeShape.{EdgeShape}
+use Rattle.rc_instance.specs.Imports.{FragmentRows, no_rows, EdgeShape}
 
 -- a fragment with no row
 abbrev pub IsEmptyFragment : List EdgeShape → FragmentRows → Type 0

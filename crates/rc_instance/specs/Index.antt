@@ -1,10 +1,8 @@
 -- A hash map from the pairs of keys to tuples: which tuples it has at a key.
 use Rattle.std.specs.Prelude.{◌≡◌, ℕ, Option, None, Some, List, [], ◌∷◌, ◌++◌, cond, map, filter}
 use Rattle.std.specs.FinMap as fin
-use Rattle.std.specs.FinMap.{FinMap}
+use Rattle.rc_instance.specs.Imports.{FinMap, Bor, Pairs, project, tuple_cmp, tuple_eq}
 use Rattle.std.proofs.Common.{Vec, Global}
-use Rattle.std.specs.Borrow.{Bor}
-use Rattle.rc_tuple.specs.Tuple.{Pairs, project, tuple_cmp, tuple_eq}
 
 -- the tuples that are lent
 abbrev pub tuples_of : List (Bor Pairs) → List Pairs

@@ -1,19 +1,6 @@
 -- What an instance keeps: one fragment for each physical stripe, and which stripes are held.
 use Rattle.std.specs.Prelude.{◌≡◌, ℕ, suc, ◌<◌, ◌≤◌, ◌^◌, List, [], ◌∷◌, ◌++◌, Option, None, Some, length, map}
-use Rattle.std.specs.List.{flat_map, slice_get}
-use Rattle.rc_tuple.specs.RisingSet.{In}
-use Rattle.rc_tuple.specs.Tuple.{Pairs}
-use Rattle.rc_tuple.specs.Relation.{IsRelation, Satisfies}
-use Rattle.rc_spec.specs.Calls.{all_columns}
-use Rattle.rc_spec.specs.Fragments.{EdgeRow, fragment_of}
-use Rattle.rc_spec.specs.Stripes.{stripe_total}
-use Rattle.rc_spec.specs.declared.lock.Mode.{Mode}
-use Rattle.rc_spec.specs.declared.spec.Spec.{Spec}
-use Rattle.rc_fragment.specs.Fragment.{edge_table}
-use Rattle.rc_fragment.specs.FragmentRows.{FragmentRows}
-use Rattle.rc_fragment.specs.Holder.{HeldStripe, Holding, IsHeld, LentStripe}
-use Rattle.rc_fragment.specs.Keep.{IsAtRest, KeptRows, at_rest}
-use Rattle.rc_fragment.specs.declared.shape.EdgeShape.{EdgeShape}
+use Rattle.rc_instance.specs.Imports.{flat_map, slice_get, In, Pairs, IsRelation, Satisfies, all_columns, EdgeRow, fragment_of, stripe_total, Mode, Spec, edge_table, FragmentRows, HeldStripe, Holding, IsHeld, LentStripe, IsAtRest, KeptRows, at_rest, EdgeShape}
 
 -- ---- what is seen of the stripes
 

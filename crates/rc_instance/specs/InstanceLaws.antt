@@ -1,26 +1,10 @@
 -- Laws of instances: what they hold and offer, and what they represent.
 use Rattle.std.specs.Prelude.{◌≡◌, ℕ, zero, suc, ◌+◌, ◌<◌, ◌^◌, ◌⊎◌, ◌==◌, Bool, true, false, List, [], ◌∷◌, Option, None, Some, length, map, ◌++◌}
-use Rattle.std.specs.List.{range_with_len, slice_get}
+use Rattle.rc_instance.specs.Imports.{range_with_len, slice_get, In, in_append, append_in_left, append_in_right, IsRelation, Satisfies, Pairs, IsSealed, all_columns, fragment_of, class_of, class_of_known, physical_stripe_below, physical_stripe, stripe_total, Mode, Spec, edge_table, shape_of, FragmentRows, KeptRows, HeldStripe, LentStripe, AreOfRelation, AreOfOneRelation, IsHeld, held_of}
 use Rattle.std.proofs.Common.{inl, inr, refl, sym, ap, subst, ◌∙◌, arith}
 use Rattle.std.proofs.lemmas.Bool.{eqb-true, eq-eqb, false≢true}
 use Rattle.std.proofs.lemmas.List.{length-map}
 use Rattle.std.proofs.lemmas.Option.{same_Some, slice_get_within}
-use Rattle.rc_tuple.specs.RisingSet.{In}
-use Rattle.rc_tuple.specs.RisingSetLaws.{in_append, append_in_left, append_in_right}
-use Rattle.rc_tuple.specs.Relation.{IsRelation, Satisfies}
-use Rattle.rc_tuple.specs.Tuple.{Pairs}
-use Rattle.rc_spec.specs.Acceptance.{IsSealed}
-use Rattle.rc_spec.specs.Calls.{all_columns}
-use Rattle.rc_spec.specs.Fragments.{fragment_of}
-use Rattle.rc_spec.specs.Placement.{class_of}
-use Rattle.rc_spec.specs.PlacementLaws.{class_of_known, physical_stripe_below}
-use Rattle.rc_spec.specs.Stripes.{physical_stripe, stripe_total}
-use Rattle.rc_spec.specs.declared.lock.Mode.{Mode}
-use Rattle.rc_spec.specs.declared.spec.Spec.{Spec}
-use Rattle.rc_fragment.specs.Fragment.{edge_table, shape_of}
-use Rattle.rc_fragment.specs.FragmentRows.{FragmentRows}
-use Rattle.rc_fragment.specs.Keep.{KeptRows}
-use Rattle.rc_fragment.specs.Holder.{HeldStripe, LentStripe, AreOfRelation, AreOfOneRelation, IsHeld, held_of}
 use Rattle.rc_instance.specs.Instance.{held_part, held_from, holding, lent_part, lent_from, IsOfOneRelation, kept_stripe, offered_at, table_of, taken_in, AreReleased, IsOfRelation, Stripe}
 
 -- ---- held stripes

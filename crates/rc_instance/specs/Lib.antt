@@ -4,3 +4,4 @@ pub mod Instance
 pub mod InstanceLaws
 pub mod RelationLaws
 pub mod Room
+pub mod Imports

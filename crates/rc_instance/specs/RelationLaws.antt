@@ -1,19 +1,8 @@
 -- What the stripes of an instance represent.
 use Rattle.std.specs.Prelude.{◌≡◌, ℕ, suc, ◌+◌, ◌<◌, List, [], ◌∷◌, ◌++◌, Option, None, Some, length}
-use Rattle.std.specs.List.{flat_map, slice_get, range_with_len}
+use Rattle.rc_instance.specs.Imports.{flat_map, slice_get, range_with_len, In, Pairs, IsRelation, Satisfies, slice_get_in, IsSealed, all_columns, EdgeRow, all_stripes, fragment_of, represented_by, instances_law, stripe_total, Mode, Spec}
 use Rattle.std.proofs.Common.{refl, sym, ap, subst, ◌∙◌, arith}
 use Rattle.std.proofs.lemmas.Option.{same_Some, slice_get_within}
-use Rattle.rc_tuple.specs.RisingSet.{In}
-use Rattle.rc_tuple.specs.Tuple.{Pairs}
-use Rattle.rc_tuple.specs.Relation.{IsRelation, Satisfies}
-use Rattle.rc_tuple.specs.RisingSetLaws.{slice_get_in}
-use Rattle.rc_spec.specs.Acceptance.{IsSealed}
-use Rattle.rc_spec.specs.Calls.{all_columns}
-use Rattle.rc_spec.specs.Fragments.{EdgeRow, all_stripes, fragment_of, represented_by}
-use Rattle.rc_spec.specs.FragmentsLaws.{instances_law}
-use Rattle.rc_spec.specs.Stripes.{stripe_total}
-use Rattle.rc_spec.specs.declared.lock.Mode.{Mode}
-use Rattle.rc_spec.specs.declared.spec.Spec.{Spec}
 use Rattle.rc_instance.specs.Instance.{held_from, rows_of, taken_in, IsInstance, IsOfRelation, Stripe}
 use Rattle.rc_instance.specs.InstanceLaws.{as_held, held_from_in}
 

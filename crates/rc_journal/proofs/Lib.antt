@@ -1,2 +1,3 @@
 pub mod MovesLemmas
 mod PartingLemmas
+mod Imports

@@ -1,18 +1,6 @@
 -- Parts to which entries are moved, one after another.
 use Rattle.std.proofs.Common.{◌≡◌, ◌≢◌, ℕ, zero, suc, ◌+◌, ◌-◌, ◌<◌, ◌≤◌, List, [], ◌∷◌, ◌++◌, Some, length, refl, sym, ap, subst, ◌∙◌, inl, inr, arith, length-append, take}
-use Rattle.std.specs.Prelude.{slice_set}
-use Rattle.std.specs.List.{slice_get, slice_index_or}
-use Rattle.std.proofs.lemmas.Bool.{cases_eq}
-use Rattle.std.proofs.lemmas.List.{append_assoc}
-use Rattle.std.proofs.lemmas.Option.{same_Some}
-use Rattle.rc_tuple.specs.RisingSet.{In}
-use Rattle.rc_tuple.specs.RisingSetLaws.{append_in_right}
-use Rattle.rc_rel.specs.declared.entry.Entry.{Entry}
-use Rattle.rc_rel.specs.declared.entry.Placed.{Placed}
-use Rattle.rc_rel.specs.History.{own_placed, placed, placed_from}
-use Rattle.rc_rel.specs.OwnLaws.{own_end_mine, own_end_other, placed_from-append}
-use Rattle.rc_journal.specs.PartEntries.{PartEntries}
-use Rattle.rc_journal.specs.Parting.{pushed, pushed_at, with_placed}
+use Rattle.rc_journal.proofs.Imports.{slice_set, slice_get, slice_index_or, cases_eq, append_assoc, same_Some, In, append_in_right, Entry, Placed, own_placed, placed, placed_from, own_end_mine, own_end_other, placed_from-append, PartEntries, pushed, pushed_at, with_placed}
 
 pub pushed_is : (parts : List PartEntries) (n : ℕ) (w : Placed) (x y : PartEntries) → n < length parts → y ≡ pushed w (slice_index_or parts n x) → slice_set parts n y ≡ pushed_at n w parts
 pushed_is [] n w x y lt made = absurd (omega (arith, lt))

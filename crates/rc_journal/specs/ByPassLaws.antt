@@ -1,14 +1,8 @@
 -- Parts that are each of one pass, in the order of their places.
 use Rattle.std.proofs.Common.{◌≡◌, ℕ, suc, ◌+◌, ◌<◌, Bool, true, false, cond, eqb, List, [], ◌∷◌, Some, All, length, get_or, map, refl, sym, ap, subst, ◌∙◌, inl, inr, arith}
-use Rattle.std.specs.List.{AllPairs, range_with_len, slice_get}
+use Rattle.rc_journal.specs.Imports.{AllPairs, range_with_len, slice_get, In, flat_map_in, in_flat_map, in_slice_get, get_or_in, slice_get_in, Entry, Placed, own_placed, placed, placed_from, stands_from, own_stands}
 use Rattle.std.proofs.lemmas.List.Kept.{AllPairs-cons}
 use Rattle.std.proofs.lemmas.Option.{get_or_from_slice_get, slice_get-get_or, slice_get_within}
-use Rattle.rc_tuple.specs.RisingSet.{In}
-use Rattle.rc_tuple.specs.RisingSetLaws.{flat_map_in, in_flat_map, in_slice_get, get_or_in, slice_get_in}
-use Rattle.rc_rel.specs.declared.entry.Entry.{Entry}
-use Rattle.rc_rel.specs.declared.entry.Placed.{Placed}
-use Rattle.rc_rel.specs.History.{own_placed, placed, placed_from}
-use Rattle.rc_rel.specs.OwnLaws.{stands_from, own_stands}
 use Rattle.rc_journal.specs.PartEntries.{PartEntries}
 use Rattle.rc_journal.specs.Merge.{AreByPass, ArePartsOf, IsMerged, placed_of}
 

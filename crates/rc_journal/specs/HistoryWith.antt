@@ -1,10 +1,6 @@
 -- The history of which passes have these own entries.
 use Rattle.std.specs.Prelude.{◌≡◌, ℕ, ◌<◌, List, [], Some, length, replicate}
-use Rattle.std.specs.List.{flat_map, slice_get}
-use Rattle.rc_tuple.specs.RisingSet.{In}
-use Rattle.rc_rel.specs.declared.entry.Entry.{Entry}
-use Rattle.rc_rel.specs.declared.entry.Placed.{Placed}
-use Rattle.rc_rel.specs.History.{own_placed}
+use Rattle.rc_journal.specs.Imports.{flat_map, slice_get, In, Entry, Placed, own_placed}
 use Rattle.rc_journal.specs.Merge.{with_all}
 
 -- all of them, one pass after another

@@ -1,15 +1,10 @@
 -- The history of own entries is the one whose they are.
 use Rattle.std.proofs.Common.{◌≡◌, ℕ, zero, suc, ◌+◌, ◌<◌, List, [], ◌∷◌, Some, length, map, refl, sym, ap, subst, ◌∙◌, arith}
-use Rattle.std.specs.Prelude.{replicate}
-use Rattle.std.specs.List.{range_with_len, slice_get, sum_by}
+use Rattle.rc_journal.specs.Imports.{replicate, range_with_len, slice_get, sum_by, Entry, Placed, own_placed, shares_add_up}
 use Rattle.std.proofs.lemmas.List.{length-map, length-replicate}
 use Rattle.std.proofs.lemmas.List.Concat.{length-flat_map}
 use Rattle.std.proofs.lemmas.List.Folds.{flat_map-map}
 use Rattle.std.proofs.lemmas.List.Sums.{sum_by-cons}
-use Rattle.rc_rel.specs.declared.entry.Entry.{Entry}
-use Rattle.rc_rel.specs.declared.entry.Placed.{Placed}
-use Rattle.rc_rel.specs.History.{own_placed}
-use Rattle.rc_rel.specs.SharesLaws.{shares_add_up}
 use Rattle.rc_journal.specs.ByPassLaws.{own_parts}
 use Rattle.rc_journal.specs.HistoryWith.{OwnMakeTheHistory, all_own}
 use Rattle.rc_journal.specs.Merge.{ArePartsOf, placed_of, with_all}

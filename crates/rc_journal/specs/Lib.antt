@@ -7,3 +7,4 @@ pub mod ByPassLaws
 pub mod HistoryWith
 pub mod HistoryWithLaws
 pub mod Parting
+pub mod Imports

@@ -1,10 +1,6 @@
 -- Parts, and the journal that has their entries.
 use Rattle.std.specs.Prelude.{◌≡◌, ◌↔◌, ℕ, ◌<◌, List, [], ◌∷◌, Some, All, AllPairs, length, map, slice_get, slice_set}
-use Rattle.std.specs.List.{flat_map, range_with_len}
-use Rattle.rc_tuple.specs.RisingSet.{In, AreDistinct}
-use Rattle.rc_rel.specs.declared.entry.Entry.{Entry}
-use Rattle.rc_rel.specs.declared.entry.Placed.{Placed}
-use Rattle.rc_rel.specs.History.{own_placed}
+use Rattle.rc_journal.specs.Imports.{flat_map, range_with_len, In, AreDistinct, Entry, Placed, own_placed}
 use Rattle.rc_journal.specs.PartEntries.{PartEntries}
 
 -- the entries of all parts, with their places

@@ -1,16 +1,9 @@
 -- Laws of merges.
 use Rattle.std.proofs.Common.{◌≡◌, ◌↔◌, ℕ, zero, suc, ◌<◌, List, [], ◌∷◌, ◌++◌, Some, length, map, refl, sym, ap, subst, ◌∙◌, inl, inr, arith}
-use Rattle.std.specs.List.{flat_map, range_with_len, slice_get, slice_set}
+use Rattle.rc_journal.specs.Imports.{flat_map, range_with_len, slice_get, slice_set, In, AreDistinct, in_map, map_in, in_flat_map, flat_map_in, in_range_below, Entry, Placed, own_placed, placed, own_stands, same_placed, same_places}
 use Rattle.std.proofs.lemmas.List.{length-set}
 use Rattle.std.proofs.lemmas.List.Folds.{flat_map-map}
 use Rattle.std.proofs.lemmas.Option.{get_or_from_slice_get, slice_get_cases, slice_get_within}
-use Rattle.rc_tuple.specs.RisingSet.{In, AreDistinct}
-use Rattle.rc_tuple.specs.RisingSetLaws.{in_map, map_in, in_flat_map, flat_map_in}
-use Rattle.rc_tuple.specs.ColSetLaws.{in_range_below}
-use Rattle.rc_rel.specs.declared.entry.Entry.{Entry}
-use Rattle.rc_rel.specs.declared.entry.Placed.{Placed}
-use Rattle.rc_rel.specs.History.{own_placed, placed}
-use Rattle.rc_rel.specs.OwnLaws.{own_stands, same_placed, same_places}
 use Rattle.rc_journal.specs.PartEntries.{PartEntries}
 use Rattle.rc_journal.specs.Merge.{AreNumbersBelow, ArePartsOf, IsMerged, placed_of, places_of, with_all}
 use Rattle.rc_journal.specs.PlacesLaws.{distinct_places, distinct_range}

@@ -1,9 +1,6 @@
 -- What parts say of the history whose own entries they have.
 use Rattle.std.specs.Prelude.{◌≡◌, ℕ, ◌<◌, List, length, Some}
-use Rattle.std.specs.List.{slice_get}
-use Rattle.rc_tuple.specs.RisingSet.{In}
-use Rattle.rc_rel.specs.declared.entry.Entry.{Entry}
-use Rattle.rc_rel.specs.History.{own_placed}
+use Rattle.rc_journal.specs.Imports.{slice_get, In, Entry, own_placed}
 use Rattle.rc_journal.specs.PartEntries.{PartEntries}
 use Rattle.rc_journal.specs.Merge.{AreByPass, AreNumbersBelow, ArePartsOf, IsMerged, places_of}
 

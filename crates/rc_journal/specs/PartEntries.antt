@@ -1,6 +1,5 @@
 -- What a part has.
-use Rattle.std.specs.Prelude.{ℕ, List}
-use Rattle.rc_rel.specs.declared.entry.Placed.{Placed}
+use Rattle.rc_journal.specs.Imports.{ℕ, List, Placed}
 
 -- entries with their places, and how many more there is room for
 pub record PartEntries : Type 0 where

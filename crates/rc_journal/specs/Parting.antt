@@ -1,9 +1,6 @@
 -- Parts to which the entries of a journal are moved.
 use Rattle.std.specs.Prelude.{◌≡◌, ℕ, zero, suc, ◌≤◌, ◌-◌, List, [], ◌∷◌, ◌++◌, Some, length}
-use Rattle.std.specs.List.{slice_get}
-use Rattle.rc_rel.specs.declared.entry.Entry.{Entry}
-use Rattle.rc_rel.specs.declared.entry.Placed.{Placed}
-use Rattle.rc_rel.specs.History.{own_placed, placed}
+use Rattle.rc_journal.specs.Imports.{slice_get, Entry, Placed, own_placed, placed}
 use Rattle.rc_journal.specs.PartEntries.{PartEntries}
 
 -- each part is empty, and has room for the entries that the pass of its number has in the journal

@@ -1,14 +1,7 @@
 -- The places of own entries.
 use Rattle.std.proofs.Common.{◌≡◌, ℕ, zero, suc, ◌+◌, Bool, true, false, cond, eqb, List, [], ◌∷◌, ◌++◌, Some, map, refl, sym, ap, subst, ◌∙◌, inl, inr, arith}
-use Rattle.std.specs.List.{flat_map, range_with_len, slice_get}
+use Rattle.rc_journal.specs.Imports.{flat_map, range_with_len, slice_get, In, AreDistinct, in_map, in_append, in_flat_map, in_range_bounds, Entry, Placed, own_placed, placed, placed_from, stands_from, own_stands}
 use Rattle.std.proofs.lemmas.List.{map-append}
-use Rattle.rc_tuple.specs.RisingSet.{In, AreDistinct}
-use Rattle.rc_tuple.specs.RisingSetLaws.{in_map, in_append, in_flat_map}
-use Rattle.rc_tuple.specs.ColSetLaws.{in_range_bounds}
-use Rattle.rc_rel.specs.declared.entry.Entry.{Entry}
-use Rattle.rc_rel.specs.declared.entry.Placed.{Placed}
-use Rattle.rc_rel.specs.History.{own_placed, placed, placed_from}
-use Rattle.rc_rel.specs.OwnLaws.{stands_from, own_stands}
 
 places_above : (n : ℕ) (history : List Entry) (pass : ℕ) → In n (map (λ (w : Placed). w.place) (placed_from (n + 1) history pass)) → ⊥
 places_above n history pass m =

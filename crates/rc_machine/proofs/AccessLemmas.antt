@@ -1,41 +1,7 @@
 -- Queries that are answered from the rows of one edge.
 use Rattle.std.specs.Prelude.{◌≡◌, ℕ, ◌<◌, ◌++◌, true, List, [], ◌∷◌, None, Option, Some, filter, length, map}
-use Rattle.std.specs.List.{flat_map, zip}
-use Rattle.std.specs.declared.cmp.Ordering.{Ordering}
-use Rattle.std.specs.declared.cmp.Ordering.TheVariants.{Less, Equal, Greater}
-use Rattle.std.specs.Ordering.{nat_cmp, ordering_then}
+use Rattle.rc_machine.proofs.Imports.{flat_map, zip, Ordering, Less, Equal, Greater, nat_cmp, ordering_then, and_from, and_parts, map-append, In, IsRising, filter_in, gather_in, in_append, in_filter, in_gather, in_map, map_in, number_lists_order, rising_gather, same_rising, Within, union, rising_range, project_all, IsRelation, IsTuple, Pairs, cols_of, matches, pick, project, value, cols-project, project-project, rising_pairs, same_from_test, test_from_same, Reply, Rows, Range, Spec, IsSealed, all_columns, target_within, edge_at, EdgeRow, fragment_of, class_at, class_of, at_most, row_cmp, rows_of, in_ranges, is_asked, physical_stripe, IsLookedUp, IsScan, IsThere, IsThereWith, shape_of, parted_edge, IsParted, extra_columns, values_at, extra_set, extra_within, length_values, EdgeShape, row_of_match, tuple_of_row, pick-project, HasListed, HasLookedUp, row_reply}
 use Rattle.std.proofs.Common.{inl, inr, refl, sym, ap, subst, ◌∙◌, arith}
-use Rattle.std.proofs.lemmas.Bool.{and_from, and_parts}
-use Rattle.std.proofs.lemmas.List.{map-append}
-use Rattle.rc_tuple.specs.RisingSet.{In, IsRising}
-use Rattle.rc_tuple.specs.RisingSetLaws.{filter_in, gather_in, in_append, in_filter, in_gather, in_map, map_in, number_lists_order, rising_gather, same_rising}
-use Rattle.rc_tuple.specs.ColSet.{Within, union}
-use Rattle.rc_tuple.specs.ColSetLaws.{rising_range}
-use Rattle.rc_tuple.specs.MergeLaws.{project_all}
-use Rattle.rc_tuple.specs.Relation.{IsRelation}
-use Rattle.rc_tuple.specs.Tuple.{IsTuple, Pairs, cols_of, matches, pick, project, value}
-use Rattle.rc_tuple.specs.TupleLaws.{cols-project, project-project, rising_pairs, same_from_test, test_from_same}
-use Rattle.rc_spec.specs.declared.call.Reply.{Reply}
-use Rattle.rc_spec.specs.declared.call.Reply.TheVariants.{Rows}
-use Rattle.rc_spec.specs.declared.range.Range.{Range}
-use Rattle.rc_spec.specs.declared.spec.Spec.{Spec}
-use Rattle.rc_spec.specs.Acceptance.{IsSealed}
-use Rattle.rc_spec.specs.Calls.{all_columns}
-use Rattle.rc_spec.specs.ContentsLaws.{target_within}
-use Rattle.rc_spec.specs.Decomposition.{edge_at}
-use Rattle.rc_spec.specs.Fragments.{EdgeRow, fragment_of}
-use Rattle.rc_spec.specs.Placement.{class_at, class_of}
-use Rattle.rc_spec.specs.Plain.{at_most, row_cmp, rows_of}
-use Rattle.rc_spec.specs.Ranges.{in_ranges, is_asked}
-use Rattle.rc_spec.specs.Stripes.{physical_stripe}
-use Rattle.rc_fragment.specs.Fragment.{IsLookedUp, IsScan, IsThere, IsThereWith, shape_of}
-use Rattle.rc_fragment.specs.FragmentLaws.{parted_edge}
-use Rattle.rc_fragment.specs.RowValues.{IsParted, extra_columns, values_at}
-use Rattle.rc_fragment.specs.RowValuesLaws.{extra_set, extra_within, length_values}
-use Rattle.rc_fragment.specs.declared.shape.EdgeShape.{EdgeShape}
-use Rattle.rc_plan.specs.AccessLaws.{row_of_match, tuple_of_row}
-use Rattle.rc_plan.specs.MatchLaws.{pick-project}
-use Rattle.rc_machine.specs.Access.{HasListed, HasLookedUp, row_reply}
 use Rattle.rc_machine.proofs.EmitLemmas.{few_rows}
 use Rattle.rc_machine.proofs.EdgeRowLemmas.{has_key, has_source, inside, pick_values, picked, same_all, these_given}
 use Rattle.rc_machine.proofs.SeekLemmas.{same_projected}

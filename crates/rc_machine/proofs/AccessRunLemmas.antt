@@ -1,53 +1,7 @@
 -- Calls that are answered by an access path.
 use Rattle.std.specs.Prelude.{◌≡◌, ℕ, true, false, List, [], ◌∷◌, ◌++◌, None, Some, length, map}
-use Rattle.std.specs.List.{list_any}
-use Rattle.std.specs.Ordering.{nat_cmp}
+use Rattle.rc_machine.proofs.Imports.{list_any, nat_cmp, eqb-true, In, gather, append_in_left, append_in_right, gather_in, in_append, in_gather, nat_order, slice_get_in, in_list_any, list_any_in, Within, IsRelation, in_range_below, Pairs, cols_of, Call, Reply, Mode, Edge, OpKind, Query, Insert, Remove, Update, Range, Spec, IsSealed, Fits, FitsAt, all_columns, value_columns, fits_at_op, bound, edge_at, EdgeRow, fragment_of, rows_on, AreBelow, IsOpAmong, class_at, class_of, op_at, Outcome, plain, plain_by, plain-known, range_column, range_columns, physical_stripe, shape_of, FragmentRows, AreOfOneRelation, AreOfRelation, HeldStripe, Holding, IsLent, held_of, Asks, AsksForRow, AsksForRows, AsksQuery, IsAccessPath, is_lock, is_lock_of, named-no_lock, IsPlanOf, SpecWithPlans, eval, given_columns, pattern_columns, updating, AccessPath, ReadMode, Lookup, Scan, Statement, Lock, Which, AreLockedFor, HasListed, HasLockedPath, HasLookedUp, leaving, HasReplied, locks_of, stripes_held, IsAt}
 use Rattle.std.proofs.Common.{inl, inr, refl, sym, ap, subst, ◌∙◌}
-use Rattle.std.proofs.lemmas.Bool.{eqb-true}
-use Rattle.rc_tuple.specs.RisingSet.{In, gather}
-use Rattle.rc_tuple.specs.RisingSetLaws.{append_in_left, append_in_right, gather_in, in_append, in_gather, nat_order, slice_get_in}
-use Rattle.rc_tuple.specs.RelationLaws.{in_list_any, list_any_in}
-use Rattle.rc_tuple.specs.ColSet.{Within}
-use Rattle.rc_tuple.specs.Relation.{IsRelation}
-use Rattle.rc_tuple.specs.ColSetLaws.{in_range_below}
-use Rattle.rc_tuple.specs.Tuple.{Pairs, cols_of}
-use Rattle.rc_spec.specs.declared.call.Call.{Call}
-use Rattle.rc_spec.specs.declared.call.Reply.{Reply}
-use Rattle.rc_spec.specs.declared.lock.Mode.{Mode}
-use Rattle.rc_spec.specs.declared.items.Edge.{Edge}
-use Rattle.rc_spec.specs.declared.items.OpKind.{OpKind}
-use Rattle.rc_spec.specs.declared.items.OpKind.TheVariants.{Query, Insert, Remove, Update}
-use Rattle.rc_spec.specs.declared.range.Range.{Range}
-use Rattle.rc_spec.specs.declared.spec.Spec.{Spec}
-use Rattle.rc_spec.specs.Acceptance.{IsSealed}
-use Rattle.rc_spec.specs.Calls.{Fits, FitsAt, all_columns, value_columns}
-use Rattle.rc_spec.specs.CallsLaws.{fits_at_op}
-use Rattle.rc_spec.specs.Decomposition.{bound, edge_at}
-use Rattle.rc_spec.specs.Fragments.{EdgeRow, fragment_of, rows_on}
-use Rattle.rc_spec.specs.InRange.{AreBelow, IsOpAmong}
-use Rattle.rc_spec.specs.Placement.{class_at, class_of, op_at}
-use Rattle.rc_spec.specs.Plain.{Outcome, plain, plain_by}
-use Rattle.rc_spec.specs.PlainLaws.{plain-known}
-use Rattle.rc_spec.specs.Ranges.{range_column, range_columns}
-use Rattle.rc_spec.specs.Stripes.{physical_stripe}
-use Rattle.rc_fragment.specs.Fragment.{shape_of}
-use Rattle.rc_fragment.specs.FragmentRows.{FragmentRows}
-use Rattle.rc_fragment.specs.Holder.{AreOfOneRelation, AreOfRelation, HeldStripe, Holding, IsLent, held_of}
-use Rattle.rc_plan.specs.Access.{Asks, AsksForRow, AsksForRows, AsksQuery, IsAccessPath, is_lock, is_lock_of}
-use Rattle.rc_plan.specs.AccessLaws.{named-no_lock}
-use Rattle.rc_plan.specs.Compiled.{IsPlanOf, SpecWithPlans}
-use Rattle.rc_plan.specs.Evaluation.{eval}
-use Rattle.rc_plan.specs.PlanRules.{given_columns, pattern_columns}
-use Rattle.rc_plan.specs.Search.{updating}
-use Rattle.rc_plan.specs.declared.access.AccessPath.{AccessPath}
-use Rattle.rc_plan.specs.declared.statement.ReadMode.{ReadMode}
-use Rattle.rc_plan.specs.declared.statement.ReadMode.TheVariants.{Lookup, Scan}
-use Rattle.rc_plan.specs.declared.statement.Statement.{Statement}
-use Rattle.rc_plan.specs.declared.statement.Statement.TheVariants.{Lock}
-use Rattle.rc_plan.specs.declared.statement.Which.{Which}
-use Rattle.rc_machine.specs.Access.{AreLockedFor, HasListed, HasLockedPath, HasLookedUp, leaving}
-use Rattle.rc_machine.specs.Machine.{HasReplied, locks_of, stripes_held}
-use Rattle.rc_machine.specs.Run.{IsAt}
 use Rattle.rc_machine.proofs.AccessLemmas.{key_and_extra_within, listed, looked_up}
 use Rattle.rc_machine.proofs.ReadLemmas.{is_held, lent_columns}
 use Rattle.rc_machine.proofs.ReadStepLemmas.{good_stripes}

@@ -1,23 +1,7 @@
 -- Rows that are changed on held stripes.
 use Rattle.std.specs.Prelude.{◌≡◌, ℕ, suc, pred, ◌<◌, ◌^◌, ◌==◌, Bool, true, false, List, [], ◌∷◌, cond, length}
 use Rattle.std.proofs.Common.{inl, inr, refl, sym, ap, subst, ◌∙◌, arith}
-use Rattle.std.proofs.lemmas.Bool.{and_parts, eqb-true}
-use Rattle.rc_tuple.specs.RisingSet.{In}
-use Rattle.rc_tuple.specs.RisingSetLaws.{in_map, map_in}
-use Rattle.rc_tuple.specs.ColSetLaws.{in_range_bounds, rising_range}
-use Rattle.rc_tuple.specs.Tuple.{Pairs, cols_of, tuple_eq}
-use Rattle.rc_tuple.specs.TupleLaws.{cols-project}
-use Rattle.rc_spec.specs.declared.spec.Spec.{Spec}
-use Rattle.rc_spec.specs.Acceptance.{IsSealed}
-use Rattle.rc_spec.specs.Calls.{all_columns}
-use Rattle.rc_spec.specs.ContentsLaws.{target_within}
-use Rattle.rc_spec.specs.CountedRows.{count_at, is_row_at, lowered, raised, row_in, with_count}
-use Rattle.rc_spec.specs.CountedRowsLaws.{in_with_count, with_count_old}
-use Rattle.rc_spec.specs.Decomposition.{bound, edge_at}
-use Rattle.rc_spec.specs.Fragments.{EdgeRow, edge_numbers}
-use Rattle.rc_fragment.specs.Fragment.{IsThere, edge_table}
-use Rattle.rc_fragment.specs.Holder.{HeldStripe, IsHeldExclusive, changed_at, with_now}
-use Rattle.rc_machine.specs.Apply.{IsAddable, all_changed, stripe_in}
+use Rattle.rc_machine.proofs.Imports.{and_parts, eqb-true, In, in_map, map_in, in_range_bounds, rising_range, Pairs, cols_of, tuple_eq, cols-project, Spec, IsSealed, all_columns, target_within, count_at, is_row_at, lowered, raised, row_in, with_count, in_with_count, with_count_old, bound, edge_at, EdgeRow, edge_numbers, IsThere, edge_table, HeldStripe, IsHeldExclusive, changed_at, with_now, IsAddable, all_changed, stripe_in}
 use Rattle.rc_machine.proofs.ReadLemmas.{target_rises}
 
 -- ---- the columns of a row

@@ -1,32 +1,7 @@
 -- A run whose Locks are taken, of a change that finds what it is to find and checks no dependency, comes to its Apply.
 use Rattle.std.specs.Prelude.{◌≡◌, ℕ, Bool, true, false, List, [], ◌∷◌, Option, Some}
-use Rattle.std.specs.List.{list_any}
-use Rattle.std.specs.Ordering.{nat_cmp}
+use Rattle.rc_machine.proofs.Imports.{list_any, nat_cmp, false≢true, or_parts, slice_get_within, In, gather_in, nat_order, Pairs, project, Call, OpKind, Query, Insert, Remove, Update, Spec, IsSealed, Fits, GivesTuple, join, tuples_of_edge, op_at, AreOfOneRelation, HeldStripe, Statement, Lock, Probe, Read, CheckAbsent, CheckFound, CheckDep, Apply, Emit, Commit, Release, is_dep_check, is_lock, some_left, ChecksAreDone, IsInsert, IsQuery, IsUpdate, Phase, pattern_columns, found_one, one_left, seen_at, IsOld, locks_of, rows_now, IsAt, IsOn}
 use Rattle.std.proofs.Common.{refl, ap, subst, sym, ◌∙◌}
-use Rattle.std.proofs.lemmas.Bool.{false≢true, or_parts}
-use Rattle.std.proofs.lemmas.Option.{slice_get_within}
-use Rattle.rc_tuple.specs.RisingSet.{In}
-use Rattle.rc_tuple.specs.RisingSetLaws.{gather_in, nat_order}
-use Rattle.rc_tuple.specs.Tuple.{Pairs, project}
-use Rattle.rc_spec.specs.declared.call.Call.{Call}
-use Rattle.rc_spec.specs.declared.items.OpKind.{OpKind}
-use Rattle.rc_spec.specs.declared.items.OpKind.TheVariants.{Query, Insert, Remove, Update}
-use Rattle.rc_spec.specs.declared.spec.Spec.{Spec}
-use Rattle.rc_spec.specs.Acceptance.{IsSealed}
-use Rattle.rc_spec.specs.Calls.{Fits, GivesTuple}
-use Rattle.rc_spec.specs.Contents.{join}
-use Rattle.rc_spec.specs.Fragments.{tuples_of_edge}
-use Rattle.rc_spec.specs.Placement.{op_at}
-use Rattle.rc_fragment.specs.Holder.{AreOfOneRelation, HeldStripe}
-use Rattle.rc_plan.specs.declared.statement.Statement.{Statement}
-use Rattle.rc_plan.specs.declared.statement.Statement.TheVariants.{Lock, Probe, Read, CheckAbsent, CheckFound, CheckDep, Apply, Emit, Commit, Release}
-use Rattle.rc_plan.specs.Access.{is_dep_check, is_lock}
-use Rattle.rc_plan.specs.Evaluation.{some_left}
-use Rattle.rc_plan.specs.PlanRules.{ChecksAreDone, IsInsert, IsQuery, IsUpdate, Phase, pattern_columns}
-use Rattle.rc_plan.specs.ProbeLaws.{found_one, one_left, seen_at}
-use Rattle.rc_plan.specs.UpdateLaws.{IsOld}
-use Rattle.rc_machine.specs.Machine.{locks_of, rows_now}
-use Rattle.rc_machine.specs.Run.{IsAt, IsOn}
 use Rattle.rc_machine.proofs.CheckStepLemmas.{absent_step, probe_step, whole_tuple}
 use Rattle.rc_machine.proofs.ReadStepLemmas.{read_step}
 use Rattle.rc_machine.proofs.UpdateLemmas.{found_step, kept_bindings}

@@ -1,13 +1,7 @@
 -- A holder that took all back.
 use Rattle.std.specs.Prelude.{◌≡◌, Err, List, [], ◌∷◌, map}
 use Rattle.std.proofs.Common.{inl, refl, sym, ap, subst, ◌∙◌}
-use Rattle.rc_tuple.specs.RisingSet.{In}
-use Rattle.rc_tuple.specs.RisingSetLaws.{in_map}
-use Rattle.rc_fragment.specs.Holder.{GoesOn, HeldStripe, Holding, all_reverted, held_of, reverted}
-use Rattle.rc_fragment.specs.HoldingLaws.{goes_on_again, held-reverted}
-use Rattle.rc_spec.specs.declared.call.Call.{Call}
-use Rattle.rc_plan.specs.Compiled.{SpecWithPlans}
-use Rattle.rc_machine.specs.Machine.{AreAsTaken, AreTakenAsOffered, HasRunCall}
+use Rattle.rc_machine.proofs.Imports.{In, in_map, GoesOn, HeldStripe, Holding, all_reverted, held_of, reverted, goes_on_again, held-reverted, Call, SpecWithPlans, AreAsTaken, AreTakenAsOffered, HasRunCall}
 use Rattle.rc_machine.specs.declared.stop.Stop.TheVariants as stop
 use Rattle.rc_machine.proofs.GoLemmas.{told_alike}
 

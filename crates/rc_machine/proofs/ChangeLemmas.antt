@@ -1,38 +1,10 @@
 -- A change of rows on held stripes is the change of all rows, and ends a run as evaluation does.
 use Rattle.std.specs.Prelude.{◌≡◌, ℕ, suc, pred, ◌<◌, ◌==◌, ◌⊎◌, Bool, true, false, List, [], ◌∷◌, Option, Some, cond, length}
-use Rattle.std.specs.Ordering.{nat_cmp}
+use Rattle.rc_machine.proofs.Imports.{nat_cmp, and_parts, eq-eqb, eqb-true, false≢true, In, IsRising, filter-filter, filter_in, has_in, in_filter, in_has, in_map, map_in, rising_filter, same_rising, has, Pairs, tuple_eq, same_from_test, Call, Reply, Spec, IsSealed, Fits, all_lowered, all_raised, count_at, is_row_at, lowered, raised, row_in, with_count, AreCountedRows, AreCountedRows-rows_on, AreCountedRows-with_count, in_with_count, rising_with_count, with_count_new, with_count_old, EdgeRow, all_rows, edge_numbers, edge_row_cmp, fragment_of, rows_on, on_stripes, row_stripe, edge_row_order, class_of, op_at, plain, physical_stripe, AreOfRelation, HeldStripe, changed_at, with_now, Statement, IsPlanOf, RunState, eval, run_one, Serves, stripes_of, all_changed, stripe_in, HasEvaluated, HasServed, locks_of, stripes_held, IsAt, updating}
 use Rattle.std.proofs.Common.{inl, inr, refl, sym, ap, subst, ◌∙◌}
-use Rattle.std.proofs.lemmas.Bool.{and_parts, eq-eqb, eqb-true, false≢true}
-use Rattle.rc_tuple.specs.RisingSet.{In, IsRising}
-use Rattle.rc_tuple.specs.RisingSetLaws.{filter-filter, filter_in, has_in, in_filter, in_has, in_map, map_in, rising_filter, same_rising}
-use Rattle.rc_tuple.specs.ColSet.{has}
-use Rattle.rc_tuple.specs.Tuple.{Pairs, tuple_eq}
-use Rattle.rc_tuple.specs.TupleLaws.{same_from_test}
-use Rattle.rc_spec.specs.declared.call.Call.{Call}
-use Rattle.rc_spec.specs.declared.call.Reply.{Reply}
-use Rattle.rc_spec.specs.declared.spec.Spec.{Spec}
-use Rattle.rc_spec.specs.Acceptance.{IsSealed}
-use Rattle.rc_spec.specs.Calls.{Fits}
-use Rattle.rc_spec.specs.CountedRows.{all_lowered, all_raised, count_at, is_row_at, lowered, raised, row_in, with_count}
-use Rattle.rc_spec.specs.CountedRowsLaws.{AreCountedRows, AreCountedRows-rows_on, AreCountedRows-with_count, in_with_count, rising_with_count, with_count_new, with_count_old}
-use Rattle.rc_spec.specs.Fragments.{EdgeRow, all_rows, edge_numbers, edge_row_cmp, fragment_of, rows_on, on_stripes, row_stripe}
-use Rattle.rc_spec.specs.FragmentsLaws.{edge_row_order}
-use Rattle.rc_spec.specs.Placement.{class_of, op_at}
-use Rattle.rc_spec.specs.Plain.{plain}
-use Rattle.rc_spec.specs.Stripes.{physical_stripe}
-use Rattle.rc_fragment.specs.Holder.{AreOfRelation, HeldStripe, changed_at, with_now}
-use Rattle.rc_plan.specs.declared.statement.Statement.{Statement}
-use Rattle.rc_plan.specs.Compiled.{IsPlanOf}
-use Rattle.rc_plan.specs.Evaluation.{RunState, eval, run_one}
-use Rattle.rc_plan.specs.Laws.{Serves}
-use Rattle.rc_plan.specs.StripeLocks.{stripes_of}
-use Rattle.rc_machine.specs.Apply.{all_changed, stripe_in}
-use Rattle.rc_machine.specs.Machine.{HasEvaluated, HasServed, locks_of, stripes_held}
-use Rattle.rc_machine.specs.Run.{IsAt}
 use Rattle.rc_machine.proofs.ApplyLemmas.{Change, IsSameAt, LeavesOthers, stripes_stay}
 use Rattle.rc_machine.proofs.CheckStepLemmas.{evaluated}
 use Rattle.rc_machine.proofs.RunLemmas.{has_evaluated, has_served, serves, stripes_named}
-use Rattle.rc_plan.specs.Search.{updating}
 
 -- ---- the rows of one stripe
 
@@ -147,7 +119,6 @@ lowered_done spec t (e ∷ edges) ws = lowered_done spec t edges (lowered e (row
 -- ---- held stripes
 
 module _ (change : Change) (local : IsLocal change) (spec : Spec) (t : Pairs) where
-
   one_part : (e : ℕ) (ws : List EdgeRow) → AreCountedRows ws → (h : HeldStripe) → h.now ≡ on_one spec h.stripe ws
       → (with_now (stripe_in spec t e) (change e (row_in spec t e)) h).now ≡ on_one spec (with_now (stripe_in spec t e) (change e (row_in spec t e)) h).stripe (change e (row_in spec t e) ws)
   one_part e ws a h is = go (h.stripe == stripe_in spec t e) refl
@@ -200,7 +171,6 @@ module _ (spec : Spec) (sealed : IsSealed spec) (plan : List Statement) (call : 
     (x : Statement) (rest : List Statement) (bs : List Pairs) (old : Option Pairs) (held : List HeldStripe) (at : IsAt spec plan call (x ∷ rest) bs old held) (answer : Reply) (t : Pairs)
     (f : (rows : List EdgeRow) → run_one spec (op_at spec call.op) call (updating old bs (locks_of held) rows) x
     ≡ record { bindings = bs; named = locks_of held; old = old; reply = Some answer; rows = all_done change spec t (edge_numbers spec) rows }) where
-
   locks_same : locks_of (all_changed change spec t (edge_numbers spec) held) ≡ locks_of held
   locks_same = locks_kept change spec t (edge_numbers spec) held
 

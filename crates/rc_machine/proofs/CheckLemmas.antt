@@ -1,15 +1,6 @@
 -- How a check of a dependency tells an update's old tuple.
 use Rattle.std.specs.Prelude.{◌≡◌, ℕ, List, not}
-use Rattle.std.specs.Ordering.{nat_cmp}
-use Rattle.std.proofs.Common.{refl, ap}
-use Rattle.rc_tuple.specs.RisingSet.{gather}
-use Rattle.rc_tuple.specs.ColSetLaws.{has-gather}
-use Rattle.rc_tuple.specs.Tuple.{Pairs}
-use Rattle.rc_tuple.specs.RelationLaws.{agree_on-same}
-use Rattle.rc_spec.specs.declared.items.OpKind.{OpKind}
-use Rattle.rc_spec.specs.declared.items.OpKind.TheVariants.{Query, Insert, Remove, Update}
-use Rattle.rc_plan.specs.Evaluation.{stays_beside}
-use Rattle.rc_machine.specs.Checks.{is_beside, told_by}
+use Rattle.rc_machine.proofs.Imports.{nat_cmp, refl, ap, gather, has-gather, Pairs, agree_on-same, OpKind, Query, Insert, Remove, Update, stays_beside, is_beside, told_by}
 
 pub told_beside : (kind : OpKind) (pattern : List ℕ) (t b : Pairs) → is_beside (told_by kind pattern) t b ≡ stays_beside kind pattern t b
 told_beside (Query outs ranges) pattern t b = refl

@@ -1,41 +1,9 @@
 -- How a run of an insert or of an update stands after a Probe and after a check, and how a run ends.
 use Rattle.std.specs.Prelude.{◌≡◌, ℕ, Bool, true, false, List, [], ◌∷◌, Option, Some, cond}
-use Rattle.std.specs.Ordering.{nat_cmp}
+use Rattle.rc_machine.proofs.Imports.{nat_cmp, In, IsRising, rising_filter, Within, has, Pairs, cols_of, pair_cmp, project, fewer_cols, rising_cols, rising_cols-project, Call, Reply, Conflict, Present, OpKind, Op, Query, Insert, Remove, Update, Spec, IsSealed, Fits, GivesTuple, all_columns, EdgeRow, rows_on, op_at, AreOfRelation, HeldStripe, Statement, CheckAbsent, CheckDep, Probe, Which, IsPlanOf, RunState, eval, run, run_one, some_differs, some_left, probe_searching, IsInsert, IsUpdate, KeepsAll, Progress, after, run-replied, StripeLock, stripes_of, HasEvaluated, HasServed, locks_of, stripes_held, IsAt, IsOn, IsClassTaken, IsSearching, updating, IsOld, fits_at_op, tuple_columns}
 use Rattle.std.proofs.Common.{inl, inr, refl, sym, ap, subst, ◌∙◌}
-use Rattle.rc_tuple.specs.RisingSet.{In, IsRising}
-use Rattle.rc_tuple.specs.RisingSetLaws.{rising_filter}
-use Rattle.rc_tuple.specs.ColSet.{Within, has}
-use Rattle.rc_tuple.specs.Tuple.{Pairs, cols_of, pair_cmp, project}
-use Rattle.rc_tuple.specs.TupleLaws.{fewer_cols, rising_cols, rising_cols-project}
-use Rattle.rc_spec.specs.declared.call.Call.{Call}
-use Rattle.rc_spec.specs.declared.call.Reply.{Reply}
-use Rattle.rc_spec.specs.declared.call.Reply.TheVariants.{Conflict, Present}
-use Rattle.rc_spec.specs.declared.items.OpKind.{OpKind}
-use Rattle.rc_spec.specs.declared.items.Op.{Op}
-use Rattle.rc_spec.specs.declared.items.OpKind.TheVariants.{Query, Insert, Remove, Update}
-use Rattle.rc_spec.specs.declared.spec.Spec.{Spec}
-use Rattle.rc_spec.specs.Acceptance.{IsSealed}
-use Rattle.rc_spec.specs.Calls.{Fits, GivesTuple, all_columns}
-use Rattle.rc_spec.specs.Fragments.{EdgeRow, rows_on}
-use Rattle.rc_spec.specs.Placement.{op_at}
-use Rattle.rc_fragment.specs.Holder.{AreOfRelation, HeldStripe}
-use Rattle.rc_plan.specs.declared.statement.Statement.{Statement}
-use Rattle.rc_plan.specs.declared.statement.Statement.TheVariants.{CheckAbsent, CheckDep, Probe}
-use Rattle.rc_plan.specs.declared.statement.Which.{Which}
 use Rattle.rc_plan.specs.declared.statement.Which.TheVariants as which
-use Rattle.rc_plan.specs.Compiled.{IsPlanOf}
-use Rattle.rc_plan.specs.Evaluation.{RunState, eval, run, run_one, some_differs, some_left}
-use Rattle.rc_plan.specs.ProbeLaws.{probe_searching}
-use Rattle.rc_plan.specs.PlanRules.{IsInsert, IsUpdate, KeepsAll, Progress, after}
-use Rattle.rc_plan.specs.RunLaws.{run-replied}
-use Rattle.rc_spec.specs.Locks.{StripeLock}
-use Rattle.rc_plan.specs.StripeLocks.{stripes_of}
-use Rattle.rc_machine.specs.Machine.{HasEvaluated, HasServed, locks_of, stripes_held}
-use Rattle.rc_machine.specs.Run.{IsAt, IsOn, IsClassTaken}
 use Rattle.rc_machine.proofs.RunLemmas.{has_evaluated, has_served, unchanged_rows}
-use Rattle.rc_plan.specs.Search.{IsSearching, updating}
-use Rattle.rc_plan.specs.UpdateLaws.{IsOld}
-use Rattle.rc_spec.specs.CallsLaws.{fits_at_op, tuple_columns}
 
 -- an insert's tuple has all columns, and an update's
 pub whole_tuple : (spec : Spec) (call : Call) → Fits spec call → GivesTuple (op_at spec call.op).kind → cols_of call.args ≡ all_columns spec
@@ -46,7 +14,6 @@ module _ (spec : Spec) (sealed : IsSealed spec) (plan : List Statement) (call : 
   -- ---- Probe
 
   module _ (xs : List ℕ) (rest : List Statement) (bs : List Pairs) (old : Option Pairs) (held : List HeldStripe) (at : IsAt spec plan call (Probe xs ∷ rest) bs old held) where
-
     keeps : KeepsAll spec (op_at spec call.op) at.progress (Probe xs)
     keeps = at.keeps.0
 

@@ -1,37 +1,7 @@
 -- A tuple's rows class by class: changed on the stripes on which the tuple falls, they are changed in all edges of the classes.
 use Rattle.std.specs.Prelude.{◌≡◌, ℕ, zero, suc, ◌+◌, ◌<◌, ◌==◌, ◌||◌, ◌++◌, ◌⊎◌, Bool, true, false, List, [], ◌∷◌, cond, filter, get_or, length, map, not, take}
-use Rattle.std.specs.List.{fold, list_any, range_with_len}
-use Rattle.std.specs.Option.{option_map_or}
-use Rattle.std.specs.Ordering.{nat_cmp}
+use Rattle.rc_machine.proofs.Imports.{fold, list_any, range_with_len, option_map_or, nat_cmp, eq-eqb, eqb-true, false≢true, ne_eqb, not-true, not_from_false, append-nil, map-append, take_more, filter-append, AreDistinct, In, append_in_left, append_in_right, filter-filter, filter_in, get_or_in, has_in, in_append, in_filter, in_has, in_map, nat_order, rising_filter, same_rising, Within, has, in_range_below, Pairs, cols_of, project, Spec, IsSealed, all_columns, lowered, raised, row_in, EdgeRow, edge_numbers, class_at, class_of, physical_stripe, one_class_law, IsThere, edge_row, edge_table, shape_of, number_has_shape, shape_by_number, HeldStripe, IsHeldExclusive, changed_at, with_now, NumberedRow, lowered_all, raised_all, class_rows, is_of_class, numbered_rows, CanAddRow, CanAddTuple, HasTuple, EdgeShape, CanInsert, CanRemove, AreAllCounted, ArePlaces, CanChange, IsAddable, all_changed, all_placed, edges_with, has_column, place_in, stripe_in, with_place, classes_more, others, class_edges, classes_of, with_class, ClassStripe}
 use Rattle.std.proofs.Common.{inl, inr, refl, sym, ap, subst, ◌∙◌, arith}
-use Rattle.std.proofs.lemmas.Bool.{eq-eqb, eqb-true, false≢true, ne_eqb, not-true, not_from_false}
-use Rattle.std.proofs.lemmas.List.{append-nil, map-append, take_more}
-use Rattle.std.proofs.lemmas.List.Elements.{filter-append}
-use Rattle.rc_tuple.specs.RisingSet.{AreDistinct, In}
-use Rattle.rc_tuple.specs.RisingSetLaws.{append_in_left, append_in_right, filter-filter, filter_in, get_or_in, has_in, in_append, in_filter, in_has, in_map, nat_order, rising_filter, same_rising}
-use Rattle.rc_tuple.specs.ColSet.{Within, has}
-use Rattle.rc_tuple.specs.ColSetLaws.{in_range_below}
-use Rattle.rc_tuple.specs.Tuple.{Pairs, cols_of, project}
-use Rattle.rc_spec.specs.declared.spec.Spec.{Spec}
-use Rattle.rc_spec.specs.Acceptance.{IsSealed}
-use Rattle.rc_spec.specs.Calls.{all_columns}
-use Rattle.rc_spec.specs.CountedRows.{lowered, raised, row_in}
-use Rattle.rc_spec.specs.Fragments.{EdgeRow, edge_numbers}
-use Rattle.rc_spec.specs.Placement.{class_at, class_of}
-use Rattle.rc_spec.specs.Stripes.{physical_stripe}
-use Rattle.rc_spec.specs.StripesLaws.{one_class_law}
-use Rattle.rc_fragment.specs.Fragment.{IsThere, edge_row, edge_table, shape_of}
-use Rattle.rc_fragment.specs.FragmentLaws.{number_has_shape, shape_by_number}
-use Rattle.rc_fragment.specs.Holder.{HeldStripe, IsHeldExclusive, changed_at, with_now}
-use Rattle.rc_fragment.specs.Implied.{NumberedRow, lowered_all, raised_all}
-use Rattle.rc_fragment.specs.ImpliedTables.{class_rows, is_of_class, numbered_rows}
-use Rattle.rc_fragment.specs.Tuples.{CanAddRow, CanAddTuple, HasTuple}
-use Rattle.rc_fragment.specs.declared.shape.EdgeShape.{EdgeShape}
-use Rattle.rc_machine.specs.Applied.{CanInsert, CanRemove}
-use Rattle.rc_machine.specs.Apply.{AreAllCounted, ArePlaces, CanChange, IsAddable, all_changed, all_placed, edges_with, has_column, place_in, stripe_in, with_place}
-use Rattle.rc_plan.specs.EdgeClassLaws.{classes_more, others}
-use Rattle.rc_plan.specs.EdgeClasses.{class_edges, classes_of, with_class}
-use Rattle.rc_machine.specs.declared.stripe.ClassStripe.{ClassStripe}
 use Rattle.rc_machine.proofs.ApplyLemmas.{CanAdd, Change, cols_of-row_in, small_count}
 use Rattle.rc_machine.proofs.ChangeLemmas.{IsLocal, lowered_local, raised_local}
 use Rattle.rc_machine.proofs.ReadLemmas.{class_known}

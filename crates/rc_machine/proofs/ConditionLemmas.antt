@@ -1,61 +1,8 @@
 -- What Apply asks of the held stripes holds before it.
 use Rattle.std.specs.Prelude.{◌≡◌, ℕ, ◌<◌, ◌^◌, Bool, true, false, List, [], ◌∷◌, ◌⊎◌, None, Option, Some, cond, filter, length}
-use Rattle.std.specs.List.{list_any}
-use Rattle.std.specs.declared.cmp.Ordering.{Ordering}
-use Rattle.std.specs.declared.cmp.Ordering.TheVariants.{Less, Equal, Greater}
-use Rattle.std.specs.Ordering.{match_ordering, nat_cmp}
+use Rattle.rc_machine.proofs.Imports.{list_any, Ordering, Less, Equal, Greater, match_ordering, nat_cmp, get_or_from_slice_get, In, IsRising, put, in_filter, in_map, in_put, map_in, put_new, put_old, rising_put, Within, in_range_below, rising_range, IsTuple, Pairs, agree_on, cols_of, matches, project, tuple_cmp, in_project, one_pair, tuple_order, IsOver, IsRelation, Satisfies, satisfies_fewer, Call, Conflict, Inserted, Present, Dep, Singleton, Op, OpKind, Insert, Remove, Exclusive, Spec, IsSealed, Range, Fits, GivesTuple, all_columns, how_many, target_within, row_in, AllHeld, AreCountedRows, AreCountedRows-rows_on, bound, edge_at, target_columns, EdgeRow, fragment_of, row_stripe, all_rows_in, fragments_in, in_all_rows, in_fragments, IsReached, class_at, class_of, no_op, op_at, Outcome, first_broken_dependency, inserted_unless, plain, plain_by, plain-known, plain_satisfies, EdgeShape, HasShape, IsThere, edge_table, shape_of, AreKeyed, AreOfRelation, HeldStripe, readable_law, Statement, Apply, Which, all_seen_match, tuple_is_named, FindsTuples, IsQuery, KeepsAll, covered_without_probe, cols_of-project, AreIn, striping_in_target, AreAddable, AreAllCounted, AreAllThere, AreExclusive, stripe_in, locks_of, stripes_held, IsAt, IsOn, number_has_shape}
 use Rattle.std.proofs.Common.{inl, inr, refl, sym, ap, subst, ◌∙◌, arith}
-use Rattle.std.proofs.lemmas.Option.{get_or_from_slice_get}
-use Rattle.rc_tuple.specs.RisingSet.{In, IsRising, put}
-use Rattle.rc_tuple.specs.RisingSetLaws.{in_filter, in_map, in_put, map_in, put_new, put_old, rising_put}
-use Rattle.rc_tuple.specs.ColSet.{Within}
-use Rattle.rc_tuple.specs.ColSetLaws.{in_range_below, rising_range}
-use Rattle.rc_tuple.specs.Tuple.{IsTuple, Pairs, agree_on, cols_of, matches, project, tuple_cmp}
-use Rattle.rc_tuple.specs.TupleLaws.{in_project, one_pair, tuple_order}
-use Rattle.rc_tuple.specs.Relation.{IsOver, IsRelation, Satisfies}
-use Rattle.rc_tuple.specs.RelationLaws.{satisfies_fewer}
-use Rattle.rc_spec.specs.declared.call.Call.{Call}
-use Rattle.rc_spec.specs.declared.call.Reply.TheVariants.{Conflict, Inserted, Present}
-use Rattle.rc_tuple.specs.declared.dep.Dep.{Dep}
-use Rattle.rc_spec.specs.declared.items.EdgeKind.TheVariants.{Singleton}
-use Rattle.rc_spec.specs.declared.items.Op.{Op}
-use Rattle.rc_spec.specs.declared.items.OpKind.{OpKind}
-use Rattle.rc_spec.specs.declared.items.OpKind.TheVariants.{Insert, Remove}
-use Rattle.rc_spec.specs.declared.lock.Mode.TheVariants.{Exclusive}
-use Rattle.rc_spec.specs.declared.spec.Spec.{Spec}
-use Rattle.rc_spec.specs.Acceptance.{IsSealed}
-use Rattle.rc_spec.specs.declared.range.Range.{Range}
-use Rattle.rc_spec.specs.Calls.{Fits, GivesTuple, all_columns}
-use Rattle.rc_spec.specs.Contents.{how_many}
-use Rattle.rc_spec.specs.ContentsLaws.{target_within}
-use Rattle.rc_spec.specs.CountedRows.{row_in}
-use Rattle.rc_spec.specs.CountedRowsLaws.{AllHeld, AreCountedRows, AreCountedRows-rows_on}
-use Rattle.rc_spec.specs.Decomposition.{bound, edge_at, target_columns}
-use Rattle.rc_spec.specs.Fragments.{EdgeRow, fragment_of, row_stripe}
-use Rattle.rc_spec.specs.FragmentsLaws.{all_rows_in, fragments_in, in_all_rows, in_fragments}
-use Rattle.rc_spec.specs.HeathLaws.{IsReached}
-use Rattle.rc_spec.specs.Placement.{class_at, class_of, no_op, op_at}
-use Rattle.rc_spec.specs.Plain.{Outcome, first_broken_dependency, inserted_unless, plain, plain_by}
-use Rattle.rc_spec.specs.PlainLaws.{plain-known, plain_satisfies}
-use Rattle.rc_fragment.specs.declared.shape.EdgeShape.{EdgeShape}
-use Rattle.rc_fragment.specs.Fragment.{HasShape, IsThere, edge_table, shape_of}
-use Rattle.rc_fragment.specs.Holder.{AreKeyed, AreOfRelation, HeldStripe}
-use Rattle.rc_fragment.specs.HolderLaws.{readable_law}
-use Rattle.rc_plan.specs.declared.statement.Statement.{Statement}
-use Rattle.rc_plan.specs.declared.statement.Statement.TheVariants.{Apply}
-use Rattle.rc_plan.specs.declared.statement.Which.{Which}
-use Rattle.rc_plan.specs.MatchLaws.{all_seen_match}
-use Rattle.rc_plan.specs.ProbeLaws.{tuple_is_named}
-use Rattle.rc_plan.specs.PlanRules.{FindsTuples, IsQuery, KeepsAll}
-use Rattle.rc_plan.specs.RemoveLaws.{covered_without_probe}
-use Rattle.rc_plan.specs.RunLaws.{cols_of-project}
-use Rattle.rc_plan.specs.StripeLocks.{AreIn}
-use Rattle.rc_plan.specs.StripeLocksLaws.{striping_in_target}
-use Rattle.rc_machine.specs.Apply.{AreAddable, AreAllCounted, AreAllThere, AreExclusive, stripe_in}
-use Rattle.rc_machine.specs.Machine.{locks_of, stripes_held}
-use Rattle.rc_machine.specs.Run.{IsAt, IsOn}
 use Rattle.rc_machine.proofs.CheckStepLemmas.{whole_tuple}
-use Rattle.rc_fragment.specs.FragmentLaws.{number_has_shape}
 use Rattle.rc_machine.proofs.ReadStepLemmas.{good_stripes}
 use Rattle.rc_machine.proofs.RunLemmas.{stripes_named}
 

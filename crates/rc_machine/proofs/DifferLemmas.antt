@@ -1,13 +1,7 @@
 -- The columns in which two tuples differ.
 use Rattle.std.specs.Prelude.{◌≡◌, ℕ, ◌+◌, ◌<◌, ◌==◌, ◌&&◌, ◌||◌, Bool, true, false, List, [], ◌∷◌, cond, drop, get_or, length, not}
-use Rattle.std.specs.List.{list_all, zip}
+use Rattle.rc_machine.proofs.Imports.{list_all, zip, eq-eqb, eqb-true, false≢true, drop_more, has, inter, with_column, has-with_column, Pairs, agree_on, cols_of, same_at, agree_on_zip}
 use Rattle.std.proofs.Common.{refl, sym, ap, ◌∙◌, arith}
-use Rattle.std.proofs.lemmas.Bool.{eq-eqb, eqb-true, false≢true}
-use Rattle.std.proofs.lemmas.List.{drop_more}
-use Rattle.rc_tuple.specs.ColSet.{has, inter, with_column}
-use Rattle.rc_tuple.specs.ColSetLaws.{has-with_column}
-use Rattle.rc_tuple.specs.Tuple.{Pairs, agree_on, cols_of, same_at}
-use Rattle.rc_tuple.specs.TupleLaws.{agree_on_zip}
 
 -- whether none of the columns is in the set
 abbrev pub is_apart : List ℕ → List ℕ → Bool

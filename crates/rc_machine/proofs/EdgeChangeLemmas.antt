@@ -1,62 +1,8 @@
 -- Inserts, removes and updates that are answered from the rows of one edge.
 use Rattle.std.specs.Prelude.{◌≡◌, ℕ, zero, suc, ◌+◌, ◌-◌, ◌≤◌, ◌++◌, Bool, true, false, List, [], ◌∷◌, None, Option, Some, Result, Ok, Err, IfErr, IsErr, IsErrAnd, drop, filter, length, map, take}
-use Rattle.std.specs.List.{list_any}
-use Rattle.std.specs.Ordering.{nat_cmp}
+use Rattle.rc_machine.proofs.Imports.{list_any, nat_cmp, or_parts, length-drop, Within, in_range_below, rising_range, union_left, union_right, project_all, IsRelation, agree_from_test, list_any_in, test_from_agree, In, IsRising, gather, filter_in, gather_in, in_filter, in_gather, nat_order, rising_filter, rising_gather, same_rising, IsTuple, Pairs, agree_on, cols_of, matches, project, tuple_cmp, cols-project, in_project, one_pair, project-project, project_less, rising_cols, rising_cols-project, same_from_test, test_from_same, tuple_order, Call, Reply, Absent, Inserted, Present, Updated, Edge, Op, Insert, Remove, Update, Spec, all_columns, value_columns, fits_at_op, raised, bound, edge_at, source_and_key, EdgeRow, edge_numbers, fragment_of, class_at, class_of, op_at, plain, plain_by, insert-present, plain-known, update-absent, physical_stripe, IsThereWith, shape_of, FragmentRows, AreOfOneRelation, AreOfRelation, GoesOn, HeldStripe, Holding, IsLent, held_of, goes_on_again, values_at, Held, EdgeShape, AreLate, Asks, InsertsRow, MayBeLate, RemovesRow, UpdatesRow, is_dep_check, is_lock, none_late, SpecWithPlans, plan_at, IsInsert, IsQuery, IsUpdate, pattern_columns, physical_stripe-agreeing, IsOld, AccessPath, ReadMode, Lookup, Scan, Statement, HasAnsweredByPath, HasLockedPath, IsBehind, IsOnlyMatch, IsRowFound, IsTupleFound, leaving, CanInsert, CanReplace, HasReplaced, replaced_in, IsSameButLent, all_changed, AreAsTaken, AreTakenAsOffered, HasRefusedCall, HasReplied, HasRunCall, told_answer, told_answer_fault, CountsIfHeld, AreStripesOf, Stop, ClassStripe}
 use Rattle.std.proofs.Common.{inl, inr, refl, sym, ap, subst, ◌∙◌, arith}
-use Rattle.std.proofs.lemmas.Bool.{or_parts}
-use Rattle.std.proofs.lemmas.List.{length-drop}
-use Rattle.rc_tuple.specs.ColSet.{Within}
-use Rattle.rc_tuple.specs.ColSetLaws.{in_range_below, rising_range, union_left, union_right}
-use Rattle.rc_tuple.specs.MergeLaws.{project_all}
-use Rattle.rc_tuple.specs.Relation.{IsRelation}
-use Rattle.rc_tuple.specs.RelationLaws.{agree_from_test, list_any_in, test_from_agree}
-use Rattle.rc_tuple.specs.RisingSet.{In, IsRising, gather}
-use Rattle.rc_tuple.specs.RisingSetLaws.{filter_in, gather_in, in_filter, in_gather, nat_order, rising_filter, rising_gather, same_rising}
-use Rattle.rc_tuple.specs.Tuple.{IsTuple, Pairs, agree_on, cols_of, matches, project, tuple_cmp}
-use Rattle.rc_tuple.specs.TupleLaws.{cols-project, in_project, one_pair, project-project, project_less, rising_cols, rising_cols-project, same_from_test, test_from_same, tuple_order}
-use Rattle.rc_spec.specs.declared.call.Call.{Call}
-use Rattle.rc_spec.specs.declared.call.Reply.{Reply}
-use Rattle.rc_spec.specs.declared.call.Reply.TheVariants.{Absent, Inserted, Present, Updated}
-use Rattle.rc_spec.specs.declared.items.Edge.{Edge}
-use Rattle.rc_spec.specs.declared.items.Op.{Op}
-use Rattle.rc_spec.specs.declared.items.OpKind.TheVariants.{Insert, Remove, Update}
-use Rattle.rc_spec.specs.declared.spec.Spec.{Spec}
-use Rattle.rc_spec.specs.Calls.{all_columns, value_columns}
-use Rattle.rc_spec.specs.CallsLaws.{fits_at_op}
-use Rattle.rc_spec.specs.CountedRows.{raised}
-use Rattle.rc_spec.specs.Decomposition.{bound, edge_at, source_and_key}
-use Rattle.rc_spec.specs.Fragments.{EdgeRow, edge_numbers, fragment_of}
-use Rattle.rc_spec.specs.Placement.{class_at, class_of, op_at}
-use Rattle.rc_spec.specs.Plain.{plain, plain_by}
-use Rattle.rc_spec.specs.PlainLaws.{insert-present, plain-known, update-absent}
-use Rattle.rc_spec.specs.Stripes.{physical_stripe}
-use Rattle.rc_fragment.specs.Fragment.{IsThereWith, shape_of}
-use Rattle.rc_fragment.specs.FragmentRows.{FragmentRows}
-use Rattle.rc_fragment.specs.Holder.{AreOfOneRelation, AreOfRelation, GoesOn, HeldStripe, Holding, IsLent, held_of}
-use Rattle.rc_fragment.specs.HoldingLaws.{goes_on_again}
-use Rattle.rc_fragment.specs.RowValues.{values_at}
-use Rattle.rc_fragment.specs.declared.held.Held.{Held}
-use Rattle.rc_fragment.specs.declared.shape.EdgeShape.{EdgeShape}
-use Rattle.rc_plan.specs.Access.{AreLate, Asks, InsertsRow, MayBeLate, RemovesRow, UpdatesRow, is_dep_check, is_lock}
-use Rattle.rc_plan.specs.AccessLaws.{none_late}
-use Rattle.rc_plan.specs.Compiled.{SpecWithPlans, plan_at}
-use Rattle.rc_plan.specs.PlanRules.{IsInsert, IsQuery, IsUpdate, pattern_columns}
-use Rattle.rc_plan.specs.StripeLocksLaws.{physical_stripe-agreeing}
-use Rattle.rc_plan.specs.UpdateLaws.{IsOld}
-use Rattle.rc_plan.specs.declared.access.AccessPath.{AccessPath}
-use Rattle.rc_plan.specs.declared.statement.ReadMode.{ReadMode}
-use Rattle.rc_plan.specs.declared.statement.ReadMode.TheVariants.{Lookup, Scan}
-use Rattle.rc_plan.specs.declared.statement.Statement.{Statement}
-use Rattle.rc_machine.specs.Access.{HasAnsweredByPath, HasLockedPath, IsBehind, IsOnlyMatch, IsRowFound, IsTupleFound, leaving}
-use Rattle.rc_machine.specs.Applied.{CanInsert, CanReplace, HasReplaced, replaced_in}
-use Rattle.rc_machine.specs.Apply.{IsSameButLent, all_changed}
-use Rattle.rc_machine.specs.Machine.{AreAsTaken, AreTakenAsOffered, HasRefusedCall, HasReplied, HasRunCall, told_answer}
-use Rattle.rc_machine.specs.ReplyLaws.{told_answer_fault}
-use Rattle.rc_machine.specs.Stopped.{CountsIfHeld}
-use Rattle.rc_machine.specs.Stripes.{AreStripesOf}
-use Rattle.rc_machine.specs.declared.stop.Stop.{Stop}
 use Rattle.rc_machine.specs.declared.stop.Stop.TheVariants as stop
-use Rattle.rc_machine.specs.declared.stripe.ClassStripe.{ClassStripe}
 use Rattle.rc_machine.proofs.AccessLemmas.{match_of, no_member, row_of}
 use Rattle.rc_machine.proofs.AccessRunLemmas.{args_are, args_striped, lent_over, lent_rows, path_replies, pattern_in_args}
 use Rattle.rc_machine.proofs.ArriveLemmas.{ComesToApply, arrives, old_kept}

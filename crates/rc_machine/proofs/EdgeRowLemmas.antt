@@ -1,28 +1,7 @@
 -- The row of an edge with the values of source and key that a tuple has, and no other.
 use Rattle.std.specs.Prelude.{◌≡◌, ℕ, ◌<◌, ◌==◌, ◌++◌, Bool, true, false, List, [], ◌∷◌, None, Option, Some, cond, length, map, unwrap_or}
-use Rattle.std.specs.List.{zip}
-use Rattle.std.specs.Option.{is_some, option_copied}
-use Rattle.std.specs.Ordering.{nat_cmp}
+use Rattle.rc_machine.proofs.Imports.{zip, is_some, option_copied, nat_cmp, cases_Bool, eq-eqb, eqb-true, false≢true, none-some, In, IsRising, has_in, in_has, in_map, map_in, rising_filter, same_rising, IsColSet, Within, has, rank, union, in_union, minus_in, rank_within, slice_get-rank, union_left, union_right, value_in, IsTuple, Pairs, cols_of, get, merge, pair_cmp, pick, project, value, cols-project, cols_of-zip, in_project, one_pair, pair_order, project_by, project_in, rising_cols, rising_pairs, Spec, IsSealed, edge_at, source_and_key, EdgeRow, get-project, get_of, zip_there, IsThereWith, shape_of, parted_edge, IsParted, extra_columns, values_at, extra_set, extra_within, row_of_parts, zip_values, EdgeShape}
 use Rattle.std.proofs.Common.{Bor, get_or, inl, inr, refl, sym, ap, subst, ◌∙◌, arith}
-use Rattle.std.proofs.lemmas.Bool.{cases_Bool, eq-eqb, eqb-true, false≢true}
-use Rattle.std.proofs.lemmas.Option.{none-some}
-use Rattle.rc_tuple.specs.RisingSet.{In, IsRising}
-use Rattle.rc_tuple.specs.RisingSetLaws.{has_in, in_has, in_map, map_in, rising_filter, same_rising}
-use Rattle.rc_tuple.specs.ColSet.{IsColSet, Within, has, rank, union}
-use Rattle.rc_tuple.specs.ColSetLaws.{in_union, minus_in, rank_within, slice_get-rank, union_left, union_right}
-use Rattle.rc_tuple.specs.MergeLaws.{value_in}
-use Rattle.rc_tuple.specs.Tuple.{IsTuple, Pairs, cols_of, get, merge, pair_cmp, pick, project, value}
-use Rattle.rc_tuple.specs.TupleLaws.{cols-project, cols_of-zip, in_project, one_pair, pair_order, project_by, project_in, rising_cols, rising_pairs}
-use Rattle.rc_spec.specs.declared.spec.Spec.{Spec}
-use Rattle.rc_spec.specs.Acceptance.{IsSealed}
-use Rattle.rc_spec.specs.Decomposition.{edge_at, source_and_key}
-use Rattle.rc_spec.specs.Fragments.{EdgeRow}
-use Rattle.rc_bindings.specs.RegistersLaws.{get-project, get_of, zip_there}
-use Rattle.rc_fragment.specs.Fragment.{IsThereWith, shape_of}
-use Rattle.rc_fragment.specs.FragmentLaws.{parted_edge}
-use Rattle.rc_fragment.specs.RowValues.{IsParted, extra_columns, values_at}
-use Rattle.rc_fragment.specs.RowValuesLaws.{extra_set, extra_within, row_of_parts, zip_values}
-use Rattle.rc_fragment.specs.declared.shape.EdgeShape.{EdgeShape}
 use Rattle.rc_machine.proofs.SeekLemmas.{same_projected}
 
 -- ---- values at columns

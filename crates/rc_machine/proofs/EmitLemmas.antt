@@ -1,16 +1,7 @@
 -- What a query answers from rows that rise.
 use Rattle.std.specs.Prelude.{◌≡◌, ℕ, zero, suc, ◌+◌, ◌<◌, ◌≤◌, ◌==◌, Bool, true, false, List, [], ◌∷◌, cond, filter, get_or, length}
-use Rattle.std.specs.declared.cmp.Ordering.{Ordering}
-use Rattle.std.specs.declared.cmp.Ordering.TheVariants.{Less}
+use Rattle.rc_machine.proofs.Imports.{Ordering, Less, eqb-true, le-leb, leb-true, IsRising, IsOrder, Pairs, in_ranges, Rows, Many, at_most, rising_behind}
 use Rattle.std.proofs.Common.{arith, ap, inl, leb, refl, subst, sym, ◌∙◌}
-use Rattle.std.proofs.lemmas.Bool.{eqb-true, le-leb, leb-true}
-use Rattle.rc_tuple.specs.RisingSet.{IsRising}
-use Rattle.rc_tuple.specs.RisingSetLaws.{IsOrder}
-use Rattle.rc_tuple.specs.Tuple.{Pairs}
-use Rattle.rc_spec.specs.Ranges.{in_ranges}
-use Rattle.rc_spec.specs.declared.call.Reply.TheVariants.{Rows, Many}
-use Rattle.rc_spec.specs.Plain.{at_most}
-use Rattle.rc_bindings.specs.BindingsLaws.{rising_behind}
 
 -- a list in which each is below the next rises
 module _ {A : Type 0} (R : A → A → Ordering) (o : IsOrder R) (d : A) where

@@ -1,49 +1,7 @@
 -- A run goes on from statement to statement.
 use Rattle.std.specs.Prelude.{◌≡◌, ℕ, ◌+◌, ◌<◌, Bool, true, false, List, [], ◌∷◌, ◌++◌, None, Option, Some, cond, filter, drop, get_or, length, map, take}
-use Rattle.std.specs.Ordering.{nat_cmp}
+use Rattle.rc_machine.proofs.Imports.{nat_cmp, drop_more, In, gather, put, append_in_left, append_in_right, gather_in, in_append, in_gather, in_map, map_in, nat_order, Within, Pairs, tuple_cmp, Satisfies, Call, Reply, Absent, Conflict, Inserted, Present, Removed, Updated, OpKind, Query, Insert, Remove, Update, Mode, Spec, IsSealed, Fits, GivesTuple, fits_at_op, in_ranges, all_raised, lowered, raised, AllHeld, EdgeRow, edge_numbers, rows_on, op_at, plain, without, plain_satisfies, Held, AreOffered, AreOfOneRelation, AreOfRelation, GoesOn, HeldStripe, Holding, held_of, offered_at, reverted, Statement, Apply, CheckAbsent, CheckDep, CheckFound, Emit, Lock, Which, IsPlanOf, RunState, answer, eval, named_by, run_one, some_differs, some_left, stripes_locked, apply, emit, replace, IsNamedBy, named_law, ChecksAreDone, IsQuery, IsUpdate, MayApply, named_grows, StripeLock, stripe_lock_cmp, stripe_lock_order, CanApply, CanReplace, HasApplied, HasRemoved, HasReplaced, replaced_in, all_changed, AreLocked, HasLocked, HasRefusedOne, AreAsTaken, AreTakenAsOffered, HasReplied, IsRefused, locks_of, stripes_held, HasGoneOn, HasKeptLeast, IsAt, IsOn, updating, IsOld}
 use Rattle.std.proofs.Common.{inl, inr, refl, sym, ap, subst, ◌∙◌}
-use Rattle.std.proofs.lemmas.List.{drop_more}
-use Rattle.rc_tuple.specs.RisingSet.{In, gather, put}
-use Rattle.rc_tuple.specs.RisingSetLaws.{append_in_left, append_in_right, gather_in, in_append, in_gather, in_map, map_in, nat_order}
-use Rattle.rc_tuple.specs.ColSet.{Within}
-use Rattle.rc_tuple.specs.Tuple.{Pairs, tuple_cmp}
-use Rattle.rc_tuple.specs.Relation.{Satisfies}
-use Rattle.rc_spec.specs.declared.call.Call.{Call}
-use Rattle.rc_spec.specs.declared.call.Reply.{Reply}
-use Rattle.rc_spec.specs.declared.call.Reply.TheVariants.{Absent, Conflict, Inserted, Present, Removed, Updated}
-use Rattle.rc_spec.specs.declared.items.OpKind.{OpKind}
-use Rattle.rc_spec.specs.declared.items.OpKind.TheVariants.{Query, Insert, Remove, Update}
-use Rattle.rc_spec.specs.declared.lock.Mode.{Mode}
-use Rattle.rc_spec.specs.declared.spec.Spec.{Spec}
-use Rattle.rc_spec.specs.Acceptance.{IsSealed}
-use Rattle.rc_spec.specs.Calls.{Fits, GivesTuple}
-use Rattle.rc_spec.specs.CallsLaws.{fits_at_op}
-use Rattle.rc_spec.specs.Ranges.{in_ranges}
-use Rattle.rc_spec.specs.CountedRows.{all_raised, lowered, raised}
-use Rattle.rc_spec.specs.CountedRowsLaws.{AllHeld}
-use Rattle.rc_spec.specs.Fragments.{EdgeRow, edge_numbers, rows_on}
-use Rattle.rc_spec.specs.Placement.{op_at}
-use Rattle.rc_spec.specs.Plain.{plain, without}
-use Rattle.rc_spec.specs.PlainLaws.{plain_satisfies}
-use Rattle.rc_fragment.specs.declared.held.Held.{Held}
-use Rattle.rc_fragment.specs.Holder.{AreOffered, AreOfOneRelation, AreOfRelation, GoesOn, HeldStripe, Holding, held_of, offered_at, reverted}
-use Rattle.rc_plan.specs.declared.statement.Statement.{Statement}
-use Rattle.rc_plan.specs.declared.statement.Statement.TheVariants.{Apply, CheckAbsent, CheckDep, CheckFound, Emit, Lock}
-use Rattle.rc_plan.specs.declared.statement.Which.{Which}
-use Rattle.rc_plan.specs.Compiled.{IsPlanOf}
-use Rattle.rc_plan.specs.Evaluation.{RunState, answer, eval, named_by, run_one, some_differs, some_left, stripes_locked, apply, emit, replace}
-use Rattle.rc_plan.specs.NamedStripes.{IsNamedBy}
-use Rattle.rc_plan.specs.NamedStripesLaws.{named_law}
-use Rattle.rc_plan.specs.PlanRules.{ChecksAreDone, IsQuery, IsUpdate, MayApply}
-use Rattle.rc_plan.specs.RunLaws.{named_grows}
-use Rattle.rc_spec.specs.Locks.{StripeLock}
-use Rattle.rc_plan.specs.StripeLocks.{stripe_lock_cmp}
-use Rattle.rc_plan.specs.StripeLocksLaws.{stripe_lock_order}
-use Rattle.rc_machine.specs.Applied.{CanApply, CanReplace, HasApplied, HasRemoved, HasReplaced, replaced_in}
-use Rattle.rc_machine.specs.Apply.{all_changed}
-use Rattle.rc_machine.specs.Locks.{AreLocked, HasLocked, HasRefusedOne}
-use Rattle.rc_machine.specs.Machine.{AreAsTaken, AreTakenAsOffered, HasReplied, IsRefused, locks_of, stripes_held}
-use Rattle.rc_machine.specs.Run.{HasGoneOn, HasKeptLeast, IsAt, IsOn}
 use Rattle.rc_machine.proofs.ApplyLemmas.{Change, IsSameAt, LeavesOthers, lowered_leaves, raised_leaves, stripes_stay}
 use Rattle.rc_machine.proofs.ChangeLemmas.{IsLocal, all_done, changed_evaluated, changed_served, lowered_done, lowered_local, raised_done, raised_local}
 use Rattle.rc_machine.proofs.CheckStepLemmas.{absent_step, dep_step, ends_evaluated, ends_served, evaluated, whole_tuple}
@@ -53,8 +11,6 @@ use Rattle.rc_machine.proofs.RunLemmas.{serves, stripes_named, taken_together}
 use Rattle.rc_machine.proofs.ReplaceLemmas.{can_replace, replaced_evaluated, replaced_served}
 use Rattle.rc_machine.proofs.StepLemmas.{fewer}
 use Rattle.rc_machine.proofs.UpdateLemmas.{found_step, old_named, old_there, updated_relation}
-use Rattle.rc_plan.specs.Search.{updating}
-use Rattle.rc_plan.specs.UpdateLaws.{IsOld}
 
 -- the next statement is the first of the rest
 pub at_is : (spec : Spec) (plan : List Statement) (call : Call) (n : ℕ) (d x : Statement) (bs : List Pairs) (old : Option Pairs) (held : List HeldStripe) → n < length plan → get_or plan n d ≡ x → IsAt spec plan call (drop n plan) bs old held

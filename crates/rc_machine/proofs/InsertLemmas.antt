@@ -1,38 +1,7 @@
 -- An insert that adds the rows of its path's class where no row has the arguments' values of source and key, and those of the other classes then.
 use Rattle.std.specs.Prelude.{◌≡◌, ℕ, suc, ◌<◌, List, [], ◌∷◌, None, Some, length, map}
-use Rattle.std.proofs.lemmas.List.{length-map}
-use Rattle.std.proofs.lemmas.List.FromFn.{length-range_with_len}
+use Rattle.rc_machine.proofs.Imports.{length-map, length-range_with_len, in_range_below, AreDistinct, In, in_map, map_in, Pairs, cols_of, Call, Insert, Spec, all_columns, raised, EdgeRow, edge_numbers, StripeLock, class_of, op_at, HasColumns, HasRowOf, HasShape, edge_row, edge_table, shape_of, number_has_shape, shape_by_number, FragmentRows, AreOfOneRelation, CanRaiseNew, HasNoRowAt, HasRoomFor, HasRowAt, HeldStripe, Holding, IsHeld, IsHeldExclusive, IsLent, changed_at, held_of, reverted, with_changes, with_tuple_at, held-change, raised_all, class_rows, CanAddTuple, changes_of_class, EdgeShape, SpecWithPlans, IsQuery, AccessPath, HasLockedPath, IsRowFound, AreTakenAlike, CanInsert, ArePlaces, CanChange, HaveRoom, IsSameButLent, all_changed, all_placed, place_in, classes_from, others, class_edges, classes_of, ClassStripe}
 use Rattle.std.proofs.Common.{inl, inr, refl, sym, ap, subst, ◌∙◌, arith}
-use Rattle.rc_tuple.specs.ColSetLaws.{in_range_below}
-use Rattle.rc_tuple.specs.RisingSet.{AreDistinct, In}
-use Rattle.rc_tuple.specs.RisingSetLaws.{in_map, map_in}
-use Rattle.rc_tuple.specs.Tuple.{Pairs, cols_of}
-use Rattle.rc_spec.specs.declared.call.Call.{Call}
-use Rattle.rc_spec.specs.declared.items.OpKind.TheVariants.{Insert}
-use Rattle.rc_spec.specs.declared.spec.Spec.{Spec}
-use Rattle.rc_spec.specs.Calls.{all_columns}
-use Rattle.rc_spec.specs.CountedRows.{raised}
-use Rattle.rc_spec.specs.Fragments.{EdgeRow, edge_numbers}
-use Rattle.rc_spec.specs.Locks.{StripeLock}
-use Rattle.rc_spec.specs.Placement.{class_of, op_at}
-use Rattle.rc_fragment.specs.Fragment.{HasColumns, HasRowOf, HasShape, edge_row, edge_table, shape_of}
-use Rattle.rc_fragment.specs.FragmentLaws.{number_has_shape, shape_by_number}
-use Rattle.rc_fragment.specs.FragmentRows.{FragmentRows}
-use Rattle.rc_fragment.specs.Holder.{AreOfOneRelation, CanRaiseNew, HasNoRowAt, HasRoomFor, HasRowAt, HeldStripe, Holding, IsHeld, IsHeldExclusive, IsLent, changed_at, held_of, reverted, with_changes, with_tuple_at}
-use Rattle.rc_fragment.specs.HoldingLaws.{held-change}
-use Rattle.rc_fragment.specs.Implied.{raised_all}
-use Rattle.rc_fragment.specs.ImpliedTables.{class_rows}
-use Rattle.rc_fragment.specs.Tuples.{CanAddTuple, changes_of_class}
-use Rattle.rc_fragment.specs.declared.shape.EdgeShape.{EdgeShape}
-use Rattle.rc_plan.specs.Compiled.{SpecWithPlans}
-use Rattle.rc_plan.specs.PlanRules.{IsQuery}
-use Rattle.rc_plan.specs.declared.access.AccessPath.{AccessPath}
-use Rattle.rc_machine.specs.Access.{HasLockedPath, IsRowFound}
-use Rattle.rc_machine.specs.Applied.{AreTakenAlike, CanInsert}
-use Rattle.rc_machine.specs.Apply.{ArePlaces, CanChange, HaveRoom, IsSameButLent, all_changed, all_placed, place_in}
-use Rattle.rc_plan.specs.EdgeClassLaws.{classes_from, others}
-use Rattle.rc_plan.specs.EdgeClasses.{class_edges, classes_of}
-use Rattle.rc_machine.specs.declared.stripe.ClassStripe.{ClassStripe}
 use Rattle.rc_machine.proofs.ApplyLemmas.{cols_of-row_in}
 use Rattle.rc_machine.proofs.CheckStepLemmas.{whole_tuple}
 use Rattle.rc_machine.proofs.ClassLemmas.{all_among, are_places, can_insert_place, changed_by_class, each_place, each_raised, row_is}

@@ -1,43 +1,7 @@
 -- A remove whose plan locks once the edge of its path is read.
 use Rattle.std.specs.Prelude.{◌≡◌, ℕ, zero, suc, ◌+◌, ◌<◌, ◌≤◌, false, true, List, [], ◌∷◌, ◌++◌, None, Option, drop, filter, get_or, length, map, take}
-use Rattle.std.specs.List.{list_any}
-use Rattle.std.specs.Ordering.{nat_cmp}
+use Rattle.rc_machine.proofs.Imports.{list_any, nat_cmp, eqb-true, false≢true, append_assoc, append-nil, drop_more, take_more, Within, union, union_left, union_right, in_list_any, list_any_in, In, gather, in_append, Pairs, cols_of, matches, Call, Reply, Remove, Mode, Spec, IsSealed, Fits, GivesTuple, all_columns, join, bound, edge_at, target_columns, EdgeRow, tuples_of_edge, class_at, op_at, physical_stripe, AreOfOneRelation, AreOfRelation, HeldStripe, AreLate, IsLate, is_lock, is_read_of, late_at, IsPlanOf, stripes_locked, IsInsert, IsKeyBound, IsQuery, IsUpdate, Progress, ReadMode, Statement, Lock, Probe, Read, CheckAbsent, CheckFound, CheckDep, Apply, Emit, Commit, Release, Which, IsBehind, CanRemove, HasRemoved, AreLocked, HasReplied, rows_now, IsAt}
 use Rattle.std.proofs.Common.{inl, inr, refl, sym, ap, subst, ◌∙◌, arith}
-use Rattle.std.proofs.lemmas.Bool.{eqb-true, false≢true}
-use Rattle.std.proofs.lemmas.List.{append_assoc, append-nil, drop_more, take_more}
-use Rattle.rc_tuple.specs.ColSet.{Within, union}
-use Rattle.rc_tuple.specs.ColSetLaws.{union_left, union_right}
-use Rattle.rc_tuple.specs.RelationLaws.{in_list_any, list_any_in}
-use Rattle.rc_tuple.specs.RisingSet.{In, gather}
-use Rattle.rc_tuple.specs.RisingSetLaws.{in_append}
-use Rattle.rc_tuple.specs.Tuple.{Pairs, cols_of, matches}
-use Rattle.rc_spec.specs.declared.call.Call.{Call}
-use Rattle.rc_spec.specs.declared.call.Reply.{Reply}
-use Rattle.rc_spec.specs.declared.items.OpKind.TheVariants.{Remove}
-use Rattle.rc_spec.specs.declared.lock.Mode.{Mode}
-use Rattle.rc_spec.specs.declared.spec.Spec.{Spec}
-use Rattle.rc_spec.specs.Acceptance.{IsSealed}
-use Rattle.rc_spec.specs.Calls.{Fits, GivesTuple, all_columns}
-use Rattle.rc_spec.specs.Contents.{join}
-use Rattle.rc_spec.specs.Decomposition.{bound, edge_at, target_columns}
-use Rattle.rc_spec.specs.Fragments.{EdgeRow, tuples_of_edge}
-use Rattle.rc_spec.specs.Placement.{class_at, op_at}
-use Rattle.rc_spec.specs.Stripes.{physical_stripe}
-use Rattle.rc_fragment.specs.Holder.{AreOfOneRelation, AreOfRelation, HeldStripe}
-use Rattle.rc_plan.specs.Access.{AreLate, IsLate, is_lock, is_read_of}
-use Rattle.rc_plan.specs.AccessLaws.{late_at}
-use Rattle.rc_plan.specs.Compiled.{IsPlanOf}
-use Rattle.rc_plan.specs.Evaluation.{stripes_locked}
-use Rattle.rc_plan.specs.PlanRules.{IsInsert, IsKeyBound, IsQuery, IsUpdate, Progress}
-use Rattle.rc_plan.specs.declared.statement.ReadMode.{ReadMode}
-use Rattle.rc_plan.specs.declared.statement.Statement.{Statement}
-use Rattle.rc_plan.specs.declared.statement.Statement.TheVariants.{Lock, Probe, Read, CheckAbsent, CheckFound, CheckDep, Apply, Emit, Commit, Release}
-use Rattle.rc_plan.specs.declared.statement.Which.{Which}
-use Rattle.rc_machine.specs.Access.{IsBehind}
-use Rattle.rc_machine.specs.Applied.{CanRemove, HasRemoved}
-use Rattle.rc_machine.specs.Locks.{AreLocked}
-use Rattle.rc_machine.specs.Machine.{HasReplied, rows_now}
-use Rattle.rc_machine.specs.Run.{IsAt}
 use Rattle.rc_machine.proofs.ArriveLemmas.{ComesToApply, arrives}
 use Rattle.rc_machine.proofs.ConditionLemmas.{found_args, visited_match}
 use Rattle.rc_machine.proofs.GoLemmas.{applied_replies, can_apply}

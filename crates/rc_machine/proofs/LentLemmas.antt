@@ -1,10 +1,7 @@
 -- All but what is lent is the same.
 use Rattle.std.specs.Prelude.{◌≡◌, List, Result, Ok, Err}
 use Rattle.std.proofs.Common.{inl, refl, sym, ap, ◌∙◌}
-use Rattle.rc_fragment.specs.Holder.{GoesOn, Holding, LentStripe}
-use Rattle.rc_machine.specs.Apply.{IsSameButLent}
-use Rattle.rc_machine.specs.Stopped.{CountsOnlyHeld}
-use Rattle.rc_machine.specs.declared.stop.Stop.{Stop}
+use Rattle.rc_machine.proofs.Imports.{GoesOn, Holding, LentStripe, IsSameButLent, CountsOnlyHeld, Stop}
 use Rattle.rc_machine.specs.declared.stop.Stop.TheVariants as stop
 
 abbrev with_lent : Holding → List LentStripe → Holding

@@ -29,3 +29,4 @@ mod ArriveLemmas
 mod LateLemmas
 mod EdgeChangeLemmas
 mod InsertLemmas
+mod Imports

@@ -1,35 +1,12 @@
 -- Stripes taken one after another, in rising order.
 use Rattle.std.specs.Prelude.{◌≡◌, ℕ, zero, suc, ◌+◌, ◌<◌, ◌≤◌, List, [], ◌∷◌, ◌++◌, Option, None, Some, Result, Ok, Err, IfErr, IsErr, IsErrAnd, length, map, take, get_or}
-use Rattle.std.specs.declared.cmp.Ordering.TheVariants.{Less}
-use Rattle.std.specs.Ordering.{nat_cmp}
+use Rattle.rc_machine.proofs.Imports.{Less, nat_cmp, ranked, sum_by, map-append, take_all, sum_by_more_le, take-suc, in_range_bounds, Pairs, In, IsRising, get_or_in, in_map, map_in, in_append, Mode, Class, Spec, IsPlaced, class_at, no_class, stripes_of_first, physical_stripe_below, band_start, physical_stripe, stripe_total, Held, AreOffered, GoesOn, HasRefused, HasRisen, HasTaken, HasTakenNothing, HeldStripe, Holding, IsAbove, IsRefusal, LentStripe, RefusedTake, held_of, just_taken, offered_at, held-taken, risen_again, TakeStop, Which, stripes_locked, Stop, HasLocked, HasRefusedOne, stopped}
 use Rattle.std.proofs.Common.{inl, inr, refl, sym, ap, subst, ◌∙◌, arith, add-one, append_assoc, append-nil}
-use Rattle.std.proofs.lemmas.Cmp.{ranked}
-use Rattle.std.specs.List.{sum_by}
-use Rattle.std.proofs.lemmas.List.{map-append, take_all}
-use Rattle.std.proofs.lemmas.List.Sums.{sum_by_more_le}
-use Rattle.std.proofs.Math.Seq.{take-suc}
-use Rattle.rc_tuple.specs.ColSetLaws.{in_range_bounds}
-use Rattle.rc_tuple.specs.Tuple.{Pairs}
-use Rattle.rc_tuple.specs.RisingSet.{In, IsRising}
-use Rattle.rc_tuple.specs.RisingSetLaws.{get_or_in, in_map, map_in, in_append}
-use Rattle.rc_spec.specs.declared.lock.Mode.{Mode}
-use Rattle.rc_spec.specs.declared.items.Class.{Class}
-use Rattle.rc_spec.specs.declared.spec.Spec.{Spec}
-use Rattle.rc_spec.specs.Placement.{IsPlaced, class_at, no_class, stripes_of_first}
-use Rattle.rc_spec.specs.PlacementLaws.{physical_stripe_below}
-use Rattle.rc_spec.specs.Stripes.{band_start, physical_stripe, stripe_total}
-use Rattle.rc_fragment.specs.declared.held.Held.{Held}
-use Rattle.rc_fragment.specs.Holder.{AreOffered, CountsIfHeld, CountsOnlyHeld, GoesOn, HasRefused, HasRisen, HasTaken, HasTakenNothing, HeldStripe, Holding, IsAbove, IsRefusal, LentStripe, RefusedTake, held_of, just_taken, offered_at}
-use Rattle.rc_fragment.specs.HoldingLaws.{held-taken, risen_again}
-use Rattle.rc_fragment.specs.declared.held.TakeStop.{TakeStop}
+use Rattle.rc_fragment.specs.Holder.{CountsIfHeld, CountsOnlyHeld}
 use Rattle.rc_fragment.specs.declared.held.TakeStop.TheVariants as take_stop
-use Rattle.rc_plan.specs.declared.statement.Which.{Which}
 use Rattle.rc_plan.specs.declared.statement.Which.TheVariants as which
-use Rattle.rc_plan.specs.Evaluation.{stripes_locked}
-use Rattle.rc_machine.specs.declared.stop.Stop.{Stop}
 use Rattle.rc_machine.specs.declared.stop.Stop.TheVariants as stop
-use Rattle.rc_machine.specs.Locks.{HasLocked, HasRefusedOne}
-use Rattle.rc_machine.specs.Stopped.{CountsIfHeld as CountsIfHeldStop, CountsOnlyHeld as CountsOnlyHeldStop, stopped}
+use Rattle.rc_machine.specs.Stopped.{CountsIfHeld as CountsIfHeldStop, CountsOnlyHeld as CountsOnlyHeldStop}
 
 pub less_from : (x y : ℕ) → nat_cmp x y ≡ Less → x < y
 less_from x y e = ranked x y Less (sym e)

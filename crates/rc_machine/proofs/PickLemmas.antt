@@ -1,12 +1,7 @@
 -- The values that a row is picked from, at columns that stand first.
 use Rattle.std.specs.Prelude.{◌≡◌, ℕ, ◌++◌, Bool, List, [], ◌∷◌, Some, if◌then◌else◌, length, unwrap_or}
-use Rattle.std.specs.List.{zip}
+use Rattle.rc_machine.proofs.Imports.{zip, eq-eqb, ne_eqb, nat_cmp, In, IsRising, nat_order, not_below_itself, Pairs, get, pick, value}
 use Rattle.std.proofs.Common.{inl, inr, refl, ap, ◌∙◌, arith}
-use Rattle.std.proofs.lemmas.Bool.{eq-eqb, ne_eqb}
-use Rattle.std.specs.Ordering.{nat_cmp}
-use Rattle.rc_tuple.specs.RisingSet.{In, IsRising}
-use Rattle.rc_tuple.specs.RisingSetLaws.{nat_order, not_below_itself}
-use Rattle.rc_tuple.specs.Tuple.{Pairs, get, pick, value}
 
 -- a pair at another column is of no matter
 value_behind : (c v : ℕ) (t : Pairs) (k : ℕ) → (c ≡ k → ⊥) → value ((c, v) ∷ t) k ≡ value t k

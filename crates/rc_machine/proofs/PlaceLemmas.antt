@@ -1,26 +1,7 @@
 -- A tuple's rows changed class by class: room for the changes, and one class after another.
 use Rattle.std.specs.Prelude.{◌≡◌, ℕ, max, ◌+◌, ◌-◌, ◌<◌, ◌≤◌, ◌==◌, Bool, true, false, List, [], ◌∷◌, cond, drop, filter, get_or, length, map, take}
 use Rattle.std.proofs.Common.{inl, inr, refl, sym, ap, subst, ◌∙◌, arith}
-use Rattle.std.proofs.lemmas.Bool.{and_parts, eq-eqb, ne_eqb}
-use Rattle.std.proofs.lemmas.List.{drop_all, drop_more}
-use Rattle.rc_tuple.specs.RisingSet.{AreDistinct, In}
-use Rattle.rc_tuple.specs.RisingSetLaws.{filter-filter, in_map, map_in}
-use Rattle.rc_tuple.specs.Tuple.{Pairs}
-use Rattle.rc_spec.specs.declared.spec.Spec.{Spec}
-use Rattle.rc_spec.specs.Fragments.{EdgeRow, edge_numbers}
-use Rattle.rc_spec.specs.Placement.{class_of}
-use Rattle.rc_fragment.specs.Fragment.{edge_table, shape_of}
-use Rattle.rc_fragment.specs.Holder.{HasRoomFor, HeldStripe, Holding, IsPartlyAddedAt, LentStripe, changed_at, held_of, reverted, with_changes, with_changes_at, with_now, with_room, with_room_at}
-use Rattle.rc_fragment.specs.HoldingLaws.{held-change, held-room}
-use Rattle.rc_fragment.specs.Implied.{NumberedRow}
-use Rattle.rc_fragment.specs.ImpliedTables.{class_rows, is_kept, is_kept_of_class}
-use Rattle.rc_fragment.specs.Tuples.{changes_of_class}
-use Rattle.rc_fragment.specs.declared.shape.EdgeShape.{EdgeShape}
-use Rattle.rc_machine.specs.Applied.{AreTakenAlike}
-use Rattle.rc_machine.specs.Apply.{CanChange, HaveRoom, IsSameButLent, all_placed}
-use Rattle.rc_plan.specs.EdgeClasses.{class_edges}
-use Rattle.rc_machine.specs.declared.stripe.ClassStripe.{ClassStripe}
-use Rattle.rc_plan.specs.EdgeClassLaws.{fewer}
+use Rattle.rc_machine.proofs.Imports.{and_parts, eq-eqb, ne_eqb, drop_all, drop_more, AreDistinct, In, filter-filter, in_map, map_in, Pairs, Spec, EdgeRow, edge_numbers, class_of, edge_table, shape_of, HasRoomFor, HeldStripe, Holding, IsPartlyAddedAt, LentStripe, changed_at, held_of, reverted, with_changes, with_changes_at, with_now, with_room, with_room_at, held-change, held-room, NumberedRow, class_rows, is_kept, is_kept_of_class, changes_of_class, EdgeShape, AreTakenAlike, CanChange, HaveRoom, IsSameButLent, all_placed, class_edges, ClassStripe, fewer}
 use Rattle.rc_machine.proofs.LentLemmas.{lent_again, lent_new, lent_table}
 use Rattle.rc_machine.proofs.ReadLemmas.{in_next}
 use Rattle.rc_machine.proofs.RevertLemmas.{partly_alike, partly_lent, taken_alike}

@@ -1,45 +1,7 @@
 -- What the containers of held stripes answer a binding, merged with it, is its part of a join.
 use Rattle.std.specs.Prelude.{◌≡◌, ℕ, zero, suc, ◌+◌, ◌<◌, ◌≤◌, true, List, [], ◌∷◌, ◌++◌, ◌⊎◌, None, Some, filter, length, map, take, get_or, Result, Ok, Err, OnErr, OnOk}
-use Rattle.std.specs.List.{flat_map, range_with_len}
-use Rattle.std.specs.Ordering.{nat_cmp}
+use Rattle.rc_machine.proofs.Imports.{flat_map, range_with_len, nat_cmp, cases_eq, length-map-range_with_len, take-suc, In, IsRising, gather, same_rising, rising_gather, in_gather, gather_in, get_or_in, in_map, map_in, in_filter, filter_in, in_append, append_in_left, append_in_right, in_flat_map, flat_map_in, Within, union_left, union_right, IsTuple, Pairs, agrees, cols_of, merge, merges_of, project, tuple_cmp, agree_from, rising_cols, rising_pairs, tuple_order, Spec, IsSealed, KeepsA3, join, bound, edge_at, node_at, no_node, edge_at_in, EdgeRow, edge_row_cmp, tuples_of_edge, edge_row_order, in_tuples_of_edge, tuples_of_edge_in, IsJoined, in_join, join_in, rising_join, class_at, class_of, band_start, Class, class_of_known, physical_stripe, BindingList, OneBinding, with_tuples, EdgeShape, IsLookedUp, IsScan, IsThere, IsThereWith, shape_of, values_at, HeldStripe, Holding, IsHeld, IsLent, held_of, FragmentRows, Lookup, Scan, project-agreeing, physical_stripe-agreeing, physical_stripe-in_band, striping_in_target, IsReadOver, rows_now, stripes_held, AreGood, AreMerges, HasMerged, HasMergedAll, HasMergedOn, IsMergeOf, IsMergeOn, IsReader, TakesMerges, EdgeRead, band}
 use Rattle.std.proofs.Common.{inl, inr, refl, sym, ap, subst, ◌∙◌, arith, add-one}
-use Rattle.std.proofs.lemmas.Bool.{cases_eq}
-use Rattle.std.proofs.lemmas.List.FromFn.{length-map-range_with_len}
-use Rattle.std.proofs.Math.Seq.{take-suc}
-use Rattle.rc_tuple.specs.RisingSet.{In, IsRising, gather}
-use Rattle.rc_tuple.specs.RisingSetLaws.{same_rising, rising_gather, in_gather, gather_in, get_or_in, in_map, map_in, in_filter, filter_in, in_append, append_in_left, append_in_right, in_flat_map, flat_map_in}
-use Rattle.rc_tuple.specs.ColSet.{Within}
-use Rattle.rc_tuple.specs.ColSetLaws.{union_left, union_right}
-use Rattle.rc_tuple.specs.Tuple.{IsTuple, Pairs, agrees, cols_of, merge, merges_of, project, tuple_cmp}
-use Rattle.rc_tuple.specs.TupleLaws.{agree_from, rising_cols, rising_pairs, tuple_order}
-use Rattle.rc_spec.specs.declared.spec.Spec.{Spec}
-use Rattle.rc_spec.specs.Acceptance.{IsSealed}
-use Rattle.rc_spec.specs.Adequacy.{KeepsA3}
-use Rattle.rc_spec.specs.Contents.{join}
-use Rattle.rc_spec.specs.Decomposition.{bound, edge_at, node_at, no_node}
-use Rattle.rc_spec.specs.DecompositionLaws.{edge_at_in}
-use Rattle.rc_spec.specs.Fragments.{EdgeRow, edge_row_cmp, tuples_of_edge}
-use Rattle.rc_spec.specs.FragmentsLaws.{edge_row_order, in_tuples_of_edge, tuples_of_edge_in}
-use Rattle.rc_spec.specs.HeathLaws.{IsJoined, in_join, join_in, rising_join}
-use Rattle.rc_spec.specs.Placement.{class_at, class_of}
-use Rattle.rc_spec.specs.Stripes.{band_start}
-use Rattle.rc_spec.specs.declared.items.Class.{Class}
-use Rattle.rc_spec.specs.PlacementLaws.{class_of_known}
-use Rattle.rc_spec.specs.Stripes.{physical_stripe}
-use Rattle.rc_bindings.specs.Bindings.{BindingList, OneBinding, with_tuples}
-use Rattle.rc_fragment.specs.declared.shape.EdgeShape.{EdgeShape}
-use Rattle.rc_fragment.specs.Fragment.{IsLookedUp, IsScan, IsThere, IsThereWith, shape_of}
-use Rattle.rc_fragment.specs.RowValues.{values_at}
-use Rattle.rc_fragment.specs.Holder.{HeldStripe, Holding, IsHeld, IsLent, held_of}
-use Rattle.rc_fragment.specs.FragmentRows.{FragmentRows}
-use Rattle.rc_plan.specs.declared.statement.ReadMode.TheVariants.{Lookup, Scan}
-use Rattle.rc_spec.specs.JoinLaws.{project-agreeing}
-use Rattle.rc_plan.specs.StripeLocksLaws.{physical_stripe-agreeing, physical_stripe-in_band, striping_in_target}
-use Rattle.rc_machine.specs.EdgeRead.{IsReadOver}
-use Rattle.rc_machine.specs.Machine.{rows_now, stripes_held}
-use Rattle.rc_machine.specs.Read.{AreGood, AreMerges, HasMerged, HasMergedAll, HasMergedOn, IsMergeOf, IsMergeOn, IsReader, TakesMerges}
-use Rattle.rc_machine.specs.declared.edge_read.EdgeRead.{EdgeRead}
-use Rattle.rc_plan.specs.StripeLocks.{band}
 
 -- ---- results
 

@@ -1,44 +1,10 @@
 -- How a run stands after a Read.
 use Rattle.std.specs.Prelude.{◌≡◌, ℕ, ◌<◌, List, ◌∷◌, None, Option, Some, length}
-use Rattle.std.specs.Ordering.{nat_cmp}
+use Rattle.rc_machine.proofs.Imports.{nat_cmp, In, IsRising, Within, union_left, Pairs, cols_of, merge, Agree, agree_from, in_merge, one_pair, rising_columns, rising_merge, Call, OpKind, Query, Insert, Remove, Update, Spec, GivesTuple, IsSealed, join, bound, edge_at, target_columns, all_rows, rows_on, tuples_of_edge, IsJoined, in_join, class_at, class_of, op_at, physical_stripe, IsThere, AreGoodRows, AreOfRelation, HeldStripe, readable_law, ReadMode, Lookup, Scan, Statement, Read, Which, run, Covers, HasProbed, IsFindable, KeepsAll, MayRead, Progress, after, IsProbing, read_keeps, read_same, stripes_of, band, locks_of, rows_now, stripes_held, AreGood, AreReaders, IsAt, IsOn, IsClassTaken, IsSearching, updating}
 use Rattle.std.proofs.Common.{inl, inr, refl, sym, ap, subst, ◌∙◌}
-use Rattle.rc_tuple.specs.RisingSet.{In, IsRising}
-use Rattle.rc_tuple.specs.ColSet.{Within}
-use Rattle.rc_tuple.specs.ColSetLaws.{union_left}
-use Rattle.rc_tuple.specs.Tuple.{Pairs, cols_of, merge}
-use Rattle.rc_tuple.specs.TupleLaws.{Agree, agree_from, in_merge, one_pair, rising_columns, rising_merge}
-use Rattle.rc_spec.specs.declared.call.Call.{Call}
-use Rattle.rc_spec.specs.declared.items.OpKind.{OpKind}
-use Rattle.rc_spec.specs.declared.items.OpKind.TheVariants.{Query, Insert, Remove, Update}
-use Rattle.rc_spec.specs.declared.spec.Spec.{Spec}
-use Rattle.rc_spec.specs.Calls.{GivesTuple}
-use Rattle.rc_spec.specs.Acceptance.{IsSealed}
-use Rattle.rc_spec.specs.Contents.{join}
-use Rattle.rc_spec.specs.Decomposition.{bound, edge_at, target_columns}
-use Rattle.rc_spec.specs.Fragments.{all_rows, rows_on, tuples_of_edge}
-use Rattle.rc_spec.specs.HeathLaws.{IsJoined, in_join}
-use Rattle.rc_spec.specs.Placement.{class_at, class_of, op_at}
-use Rattle.rc_spec.specs.Stripes.{physical_stripe}
-use Rattle.rc_fragment.specs.Fragment.{IsThere}
-use Rattle.rc_fragment.specs.Holder.{AreGoodRows, AreOfRelation, HeldStripe}
-use Rattle.rc_fragment.specs.HolderLaws.{readable_law}
-use Rattle.rc_plan.specs.declared.statement.ReadMode.{ReadMode}
-use Rattle.rc_plan.specs.declared.statement.ReadMode.TheVariants.{Lookup, Scan}
-use Rattle.rc_plan.specs.declared.statement.Statement.{Statement}
-use Rattle.rc_plan.specs.declared.statement.Statement.TheVariants.{Read}
-use Rattle.rc_plan.specs.declared.statement.Which.{Which}
 use Rattle.rc_plan.specs.declared.statement.Which.TheVariants as which
-use Rattle.rc_plan.specs.Evaluation.{run}
-use Rattle.rc_plan.specs.PlanRules.{Covers, HasProbed, IsFindable, KeepsAll, MayRead, Progress, after}
-use Rattle.rc_plan.specs.ProbeLaws.{IsProbing}
-use Rattle.rc_plan.specs.RunLaws.{read_keeps, read_same}
-use Rattle.rc_plan.specs.StripeLocks.{stripes_of, band}
-use Rattle.rc_machine.specs.Machine.{locks_of, rows_now, stripes_held}
-use Rattle.rc_machine.specs.Read.{AreGood, AreReaders}
-use Rattle.rc_machine.specs.Run.{IsAt, IsOn, IsClassTaken}
 use Rattle.rc_machine.proofs.ReadLemmas.{row_there, target_rises}
 use Rattle.rc_machine.proofs.RunLemmas.{now_together, stripes_named}
-use Rattle.rc_plan.specs.Search.{IsSearching, updating}
 
 merged_columns : (t u : Pairs) → IsRising nat_cmp (cols_of t) → IsRising nat_cmp (cols_of u) → Agree t u → IsRising nat_cmp (cols_of (merge t u))
 merged_columns t u rt ru f = rising_columns (merge t u) (rising_merge t u) (λ p q m n e. elim (in_merge t u p m) [

@@ -1,36 +1,9 @@
 -- A change of two tuples, as an update makes it: the rows of the old one go, and those of the new one come.
 use Rattle.std.specs.Prelude.{◌≡◌, ℕ, ◌<◌, ◌≤◌, ◌^◌, List, [], ◌∷◌, Option, Some, length, map, not}
-use Rattle.std.specs.Ordering.{nat_cmp}
+use Rattle.rc_machine.proofs.Imports.{nat_cmp, In, IsRising, put, in_filter, in_map, map_in, rising_filter, IsTuple, Pairs, cols_of, tuple_cmp, tuple_eq, Satisfies, satisfies_fewer, Call, Reply, Exclusive, Spec, IsSealed, Fits, all_columns, lowered, raised, row_in, AllHeld, AreCountedRows, AreCountedRows-rows_on, without_rows-fragments, EdgeRow, edge_numbers, fragment_of, on_stripes, rows_on, class_of, plain, without, physical_stripe, AreOfRelation, HeldStripe, Statement, IsPlanOf, RunState, eval, Serves, AreIn, CanReplace, replaced_in, AreAddable, all_changed, HasEvaluated, HasServed, locks_of, stripes_held, fewer}
 use Rattle.std.proofs.Common.{refl, sym, ap, subst, ◌∙◌, arith}
-use Rattle.rc_tuple.specs.RisingSet.{In, IsRising, put}
-use Rattle.rc_tuple.specs.RisingSetLaws.{in_filter, in_map, map_in, rising_filter}
-use Rattle.rc_tuple.specs.Tuple.{IsTuple, Pairs, cols_of, tuple_cmp, tuple_eq}
-use Rattle.rc_tuple.specs.Relation.{Satisfies}
-use Rattle.rc_tuple.specs.RelationLaws.{satisfies_fewer}
-use Rattle.rc_spec.specs.declared.call.Call.{Call}
-use Rattle.rc_spec.specs.declared.call.Reply.{Reply}
-use Rattle.rc_spec.specs.declared.lock.Mode.TheVariants.{Exclusive}
-use Rattle.rc_spec.specs.declared.spec.Spec.{Spec}
-use Rattle.rc_spec.specs.Acceptance.{IsSealed}
-use Rattle.rc_spec.specs.Calls.{Fits, all_columns}
-use Rattle.rc_spec.specs.CountedRows.{lowered, raised, row_in}
-use Rattle.rc_spec.specs.CountedRowsLaws.{AllHeld, AreCountedRows, AreCountedRows-rows_on, without_rows-fragments}
-use Rattle.rc_spec.specs.Fragments.{EdgeRow, edge_numbers, fragment_of, on_stripes, rows_on}
-use Rattle.rc_spec.specs.Placement.{class_of}
-use Rattle.rc_spec.specs.Plain.{plain, without}
-use Rattle.rc_spec.specs.Stripes.{physical_stripe}
-use Rattle.rc_fragment.specs.Holder.{AreOfRelation, HeldStripe}
-use Rattle.rc_plan.specs.declared.statement.Statement.{Statement}
-use Rattle.rc_plan.specs.Compiled.{IsPlanOf}
-use Rattle.rc_plan.specs.Evaluation.{RunState, eval}
-use Rattle.rc_plan.specs.Laws.{Serves}
-use Rattle.rc_plan.specs.StripeLocks.{AreIn}
-use Rattle.rc_machine.specs.Applied.{CanReplace, replaced_in}
-use Rattle.rc_machine.specs.Apply.{AreAddable, all_changed}
-use Rattle.rc_machine.specs.Machine.{HasEvaluated, HasServed, locks_of, stripes_held}
 use Rattle.rc_machine.proofs.ApplyLemmas.{Change, IsSameAt, lowered_leaves, raised_leaves, stripes_stay}
 use Rattle.rc_machine.proofs.ChangeLemmas.{IsLocal, all_done, locks_kept, lowered_done, lowered_local, part_of, parts_changed, raised_local, stripes_kept}
-use Rattle.rc_plan.specs.EdgeClassLaws.{fewer}
 use Rattle.rc_machine.proofs.ConditionLemmas.{addable_at, counted_at, exclusive_from, there_at}
 use Rattle.rc_machine.proofs.RunLemmas.{has_evaluated, has_served, serves, stripes_named}
 

@@ -1,16 +1,7 @@
 -- Changes of held stripes leave what the stripes are as taken.
 use Rattle.std.specs.Prelude.{◌≡◌, ℕ, ◌==◌, Bool, true, false, List, [], ◌∷◌, cond, map}
 use Rattle.std.proofs.Common.{refl, ap, ◌∙◌}
-use Rattle.rc_tuple.specs.Tuple.{Pairs}
-use Rattle.rc_spec.specs.Fragments.{EdgeRow}
-use Rattle.rc_fragment.specs.Holder.{HeldStripe, Holding, IsPartlyAddedAt, changed_at, held_of, reverted, with_changes}
-use Rattle.rc_fragment.specs.HoldingLaws.{held-change}
-use Rattle.rc_fragment.specs.Implied.{NumberedRow}
-use Rattle.rc_fragment.specs.ImpliedTables.{class_rows}
-use Rattle.rc_fragment.specs.declared.shape.EdgeShape.{EdgeShape}
-use Rattle.rc_machine.specs.Applied.{AreTakenAlike}
-use Rattle.rc_machine.specs.Apply.{IsSameButLent, all_placed}
-use Rattle.rc_machine.specs.declared.stripe.ClassStripe.{ClassStripe}
+use Rattle.rc_machine.proofs.Imports.{Pairs, EdgeRow, HeldStripe, Holding, IsPartlyAddedAt, changed_at, held_of, reverted, with_changes, held-change, NumberedRow, class_rows, EdgeShape, AreTakenAlike, IsSameButLent, all_placed, ClassStripe}
 use Rattle.rc_machine.proofs.LentLemmas.{lent_new}
 
 pub taken_alike : (s : ℕ) (f : List EdgeRow → List EdgeRow) (held : List HeldStripe) → AreTakenAlike held (changed_at s f held)

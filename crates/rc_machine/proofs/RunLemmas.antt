@@ -1,30 +1,7 @@
 -- A run of a plan over held stripes, statement by statement, against evaluation.
 use Rattle.std.specs.Prelude.{◌≡◌, ℕ, List, [], ◌∷◌, Some}
-use Rattle.std.specs.List.{flat_map}
-use Rattle.std.specs.Ordering.{nat_cmp}
+use Rattle.rc_machine.proofs.Imports.{flat_map, nat_cmp, In, IsRising, gather, same_rising, rising_gather, in_gather, gather_in, in_map, map_in, in_flat_map, flat_map_in, Pairs, Call, Reply, Mode, Shared, Exclusive, Spec, IsSealed, Fits, EdgeRow, all_rows, edge_row_cmp, fragment_of, rows_on, row_stripe, edge_row_order, fragments_in, in_fragments, rising_fragments, plain, AreOfRelation, HeldStripe, Statement, IsPlanOf, eval, rows_as_taken, Serves, Suffices, stripes_of, AreAsTaken, HasEvaluated, HasServed, locks_of, rows_now, rows_taken, stripes_held, plan_serves}
 use Rattle.std.proofs.Common.{inl, inr, refl, sym, ap, subst, ◌∙◌}
-use Rattle.rc_tuple.specs.RisingSet.{In, IsRising, gather}
-use Rattle.rc_tuple.specs.RisingSetLaws.{same_rising, rising_gather, in_gather, gather_in, in_map, map_in, in_flat_map, flat_map_in}
-use Rattle.rc_tuple.specs.Tuple.{Pairs}
-use Rattle.rc_spec.specs.declared.call.Call.{Call}
-use Rattle.rc_spec.specs.declared.call.Reply.{Reply}
-use Rattle.rc_spec.specs.declared.lock.Mode.{Mode}
-use Rattle.rc_spec.specs.declared.lock.Mode.TheVariants.{Shared, Exclusive}
-use Rattle.rc_spec.specs.declared.spec.Spec.{Spec}
-use Rattle.rc_spec.specs.Acceptance.{IsSealed}
-use Rattle.rc_spec.specs.Calls.{Fits}
-use Rattle.rc_spec.specs.Fragments.{EdgeRow, all_rows, edge_row_cmp, fragment_of, rows_on, row_stripe}
-use Rattle.rc_spec.specs.FragmentsLaws.{edge_row_order, fragments_in, in_fragments, rising_fragments}
-use Rattle.rc_spec.specs.Plain.{plain}
-use Rattle.rc_fragment.specs.Holder.{AreOfRelation, HeldStripe}
-use Rattle.rc_plan.specs.declared.statement.Statement.{Statement}
-use Rattle.rc_plan.specs.Compiled.{IsPlanOf}
-use Rattle.rc_plan.specs.Evaluation.{eval, rows_as_taken}
-use Rattle.rc_plan.specs.Laws.{Serves}
-use Rattle.rc_spec.specs.Locks.{Suffices}
-use Rattle.rc_plan.specs.StripeLocks.{stripes_of}
-use Rattle.rc_machine.specs.Machine.{AreAsTaken, HasEvaluated, HasServed, locks_of, rows_now, rows_taken, stripes_held}
-use Rattle.rc_plan.specs.CompiledLaws.{plan_serves}
 
 -- ---- held stripes, put together
 

@@ -1,25 +1,7 @@
 -- Rows by their values, as containers answer them, are rows that bindings take.
 use Rattle.std.specs.Prelude.{◌≡◌, ◌⊎◌, ℕ, ◌<◌, List, [], length}
-use Rattle.std.specs.List.{zip}
-use Rattle.std.specs.Ordering.{nat_cmp}
+use Rattle.rc_machine.proofs.Imports.{zip, nat_cmp, cases_Bool, false≢true, In, IsRising, has_in, in_append, in_has, map_in, append_in_left, append_in_right, IsColSet, Within, has, union, in_minus, in_union, minus_in, union_left, union_right, IsTuple, Pairs, cols_of, project, in_project, project_in, Spec, IsSealed, BindingList, IsGivenBy, IsRowWith, OneBinding, TakesRows, given, shape_of, parted_edge, IsParted, extra_columns, values_at, extra_set, extra_within, length_values, zip_values, EdgeShape, ReadMode, IsReader, TakesMerges}
 use Rattle.std.proofs.Common.{inl, inr, refl, sym, ap, subst, ◌∙◌}
-use Rattle.std.proofs.lemmas.Bool.{cases_Bool, false≢true}
-use Rattle.rc_tuple.specs.RisingSet.{In, IsRising}
-use Rattle.rc_tuple.specs.RisingSetLaws.{has_in, in_append, in_has, map_in, append_in_left, append_in_right}
-use Rattle.rc_tuple.specs.ColSet.{IsColSet, Within, has, union}
-use Rattle.rc_tuple.specs.ColSetLaws.{in_minus, in_union, minus_in, union_left, union_right}
-use Rattle.rc_tuple.specs.Tuple.{IsTuple, Pairs, cols_of, project}
-use Rattle.rc_tuple.specs.TupleLaws.{in_project, project_in}
-use Rattle.rc_spec.specs.declared.spec.Spec.{Spec}
-use Rattle.rc_spec.specs.Acceptance.{IsSealed}
-use Rattle.rc_bindings.specs.Bindings.{BindingList, IsGivenBy, IsRowWith, OneBinding, TakesRows, given}
-use Rattle.rc_fragment.specs.Fragment.{shape_of}
-use Rattle.rc_fragment.specs.FragmentLaws.{parted_edge}
-use Rattle.rc_fragment.specs.RowValues.{IsParted, extra_columns, values_at}
-use Rattle.rc_fragment.specs.RowValuesLaws.{extra_set, extra_within, length_values, zip_values}
-use Rattle.rc_fragment.specs.declared.shape.EdgeShape.{EdgeShape}
-use Rattle.rc_plan.specs.declared.statement.ReadMode.{ReadMode}
-use Rattle.rc_machine.specs.Read.{IsReader, TakesMerges}
 
 -- tuples with the same values at columns that both have agree there
 pub same_projected : (cols : List ℕ) (t u : Pairs) → IsColSet cols → IsRising nat_cmp (cols_of t) → IsRising nat_cmp (cols_of u) → Within cols (cols_of t) → Within cols (cols_of u)

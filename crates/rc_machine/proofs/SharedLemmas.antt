@@ -1,26 +1,7 @@
 -- Rows that two tuples share: taken out with the one's rows and added with the other's, they stay.
 use Rattle.std.specs.Prelude.{◌≡◌, ℕ, suc, pred, ◌<◌, ◌==◌, Bool, true, false, List, [], ◌∷◌, cond, filter, length, not}
-use Rattle.std.specs.declared.cmp.Ordering.TheVariants.{Less}
-use Rattle.std.specs.Ordering.{nat_cmp}
+use Rattle.rc_machine.proofs.Imports.{Less, nat_cmp, eqb-true, false≢true, not-true, In, IsRising, in_filter, in_map, nat_order, not_below_itself, rising_filter, inter, in_range_bounds, rising_range, Pairs, agree_on, same_from_test, Spec, lowered, raised, row_in, AreCountedRows, raised-lowered, recounts-apart, bound, edge_at, EdgeRow, edge_numbers, class_of, physical_stripe, IsThere, HeldStripe, changed_at, with_now, CanInsert, replaced_in, AreAllCounted, AreAllThere, all_changed, has_column, stripe_in}
 use Rattle.std.proofs.Common.{inl, inr, refl, sym, ap, subst, ◌∙◌, arith}
-use Rattle.std.proofs.lemmas.Bool.{eqb-true, false≢true, not-true}
-use Rattle.rc_tuple.specs.RisingSet.{In, IsRising}
-use Rattle.rc_tuple.specs.RisingSetLaws.{in_filter, in_map, nat_order, not_below_itself, rising_filter}
-use Rattle.rc_tuple.specs.ColSet.{inter}
-use Rattle.rc_tuple.specs.ColSetLaws.{in_range_bounds, rising_range}
-use Rattle.rc_tuple.specs.Tuple.{Pairs, agree_on}
-use Rattle.rc_tuple.specs.TupleLaws.{same_from_test}
-use Rattle.rc_spec.specs.declared.spec.Spec.{Spec}
-use Rattle.rc_spec.specs.CountedRows.{lowered, raised, row_in}
-use Rattle.rc_spec.specs.CountedRowsLaws.{AreCountedRows, raised-lowered, recounts-apart}
-use Rattle.rc_spec.specs.Decomposition.{bound, edge_at}
-use Rattle.rc_spec.specs.Fragments.{EdgeRow, edge_numbers}
-use Rattle.rc_spec.specs.Placement.{class_of}
-use Rattle.rc_spec.specs.Stripes.{physical_stripe}
-use Rattle.rc_fragment.specs.Fragment.{IsThere}
-use Rattle.rc_fragment.specs.Holder.{HeldStripe, changed_at, with_now}
-use Rattle.rc_machine.specs.Applied.{CanInsert, replaced_in}
-use Rattle.rc_machine.specs.Apply.{AreAllCounted, AreAllThere, all_changed, has_column, stripe_in}
 use Rattle.rc_machine.proofs.ApplyLemmas.{AreSameAt, CanAdd, Change, can_add_same, changed_same, lowered_leaves, same_back}
 use Rattle.rc_machine.proofs.ChangeLemmas.{IsLocal, lowered_local, raised_local}
 

@@ -1,50 +1,8 @@
 -- How a run stands after each statement.
 use Rattle.std.specs.Prelude.{◌≡◌, ℕ, ◌<◌, List, [], ◌∷◌, ◌++◌, None, Option, Some, length}
-use Rattle.std.specs.declared.cmp.Ordering.TheVariants.{Less}
-use Rattle.std.specs.Cmp.{nat_cmp_is}
-use Rattle.std.specs.Ordering.{nat_cmp, ordering_then}
+use Rattle.rc_machine.proofs.Imports.{Less, nat_cmp_is, nat_cmp, ordering_then, false≢true, map-append, In, IsRising, gather, same_rising, rising_gather, in_gather, gather_in, in_map, map_in, in_append, append_in_left, append_in_right, nat_order, slice_get_in, Within, in_range_below, Pairs, cols_of, rising_pairs, Call, Op, OpKind, Query, Insert, Remove, Update, Mode, Exclusive, Spec, IsSealed, Fits, all_columns, value_columns, FitsAt, AreBelow, IsInRange, IsOpAmong, EdgeRow, rows_on, op_at, band_before, AreOfRelation, HeldStripe, IsAbove, Statement, Lock, Which, IsPlanOf, named_by, run, stripes_locked, IsProbing, more_named, tuple_named, IsOfClass-stripes_locked, of_locked_one, HasLockMode, IsKeyBound, IsLocked, IsQuery, KeepsAll, Progress, after, at_start, given_columns, lock_keeps, search_begins, StripeLock, mode_number, stripe_lock_cmp, stripes_of, IsOfClass, AreIn, AreIn-more, named_before, named_now, stripe_lock_order, stripes_of_in, AreLocked, locks_of, stripes_held, IsAt, IsOn, IsClassTaken, HasNamed, AreOfLocked, searching, updating, fits_at_op}
 use Rattle.std.proofs.Common.{inl, inr, refl, sym, ap, subst, ◌∙◌, arith}
-use Rattle.std.proofs.lemmas.Bool.{false≢true}
-use Rattle.std.proofs.lemmas.List.{map-append}
-use Rattle.rc_tuple.specs.RisingSet.{In, IsRising, gather}
-use Rattle.rc_tuple.specs.RisingSetLaws.{same_rising, rising_gather, in_gather, gather_in, in_map, map_in, in_append, append_in_left, append_in_right, nat_order, slice_get_in}
-use Rattle.rc_tuple.specs.ColSet.{Within}
-use Rattle.rc_tuple.specs.ColSetLaws.{in_range_below}
-use Rattle.rc_tuple.specs.Tuple.{Pairs, cols_of}
-use Rattle.rc_tuple.specs.TupleLaws.{rising_pairs}
-use Rattle.rc_spec.specs.declared.call.Call.{Call}
-use Rattle.rc_spec.specs.declared.items.Op.{Op}
-use Rattle.rc_spec.specs.declared.items.OpKind.{OpKind}
-use Rattle.rc_spec.specs.declared.items.OpKind.TheVariants.{Query, Insert, Remove, Update}
-use Rattle.rc_spec.specs.declared.lock.Mode.{Mode}
-use Rattle.rc_spec.specs.declared.lock.Mode.TheVariants.{Exclusive}
-use Rattle.rc_spec.specs.declared.spec.Spec.{Spec}
-use Rattle.rc_spec.specs.Acceptance.{IsSealed}
-use Rattle.rc_spec.specs.Calls.{Fits, all_columns, value_columns, FitsAt}
-use Rattle.rc_spec.specs.InRange.{AreBelow, IsInRange, IsOpAmong}
-use Rattle.rc_spec.specs.Fragments.{EdgeRow, rows_on}
-use Rattle.rc_spec.specs.Placement.{op_at}
-use Rattle.rc_spec.specs.StripesLaws.{band_before}
-use Rattle.rc_fragment.specs.Holder.{AreOfRelation, HeldStripe, IsAbove}
-use Rattle.rc_plan.specs.declared.statement.Statement.{Statement}
-use Rattle.rc_plan.specs.declared.statement.Statement.TheVariants.{Lock}
-use Rattle.rc_plan.specs.declared.statement.Which.{Which}
 use Rattle.rc_plan.specs.declared.statement.Which.TheVariants as which
-use Rattle.rc_plan.specs.Compiled.{IsPlanOf}
-use Rattle.rc_plan.specs.Evaluation.{named_by, run, stripes_locked}
-use Rattle.rc_plan.specs.ProbeLaws.{IsProbing, more_named, tuple_named}
-use Rattle.rc_plan.specs.LockOrderLaws.{IsOfClass-stripes_locked, of_locked_one}
-use Rattle.rc_plan.specs.PlanRules.{HasLockMode, IsKeyBound, IsLocked, IsQuery, KeepsAll, Progress, after, at_start, given_columns}
-use Rattle.rc_plan.specs.RunLaws.{lock_keeps, search_begins}
-use Rattle.rc_spec.specs.Locks.{StripeLock}
-use Rattle.rc_plan.specs.StripeLocks.{mode_number, stripe_lock_cmp, stripes_of, IsOfClass, AreIn}
-use Rattle.rc_plan.specs.StripeLocksLaws.{AreIn-more, named_before, named_now, stripe_lock_order, stripes_of_in}
-use Rattle.rc_machine.specs.Locks.{AreLocked}
-use Rattle.rc_machine.specs.Machine.{locks_of, stripes_held}
-use Rattle.rc_machine.specs.Run.{IsAt, IsOn, IsClassTaken}
-use Rattle.rc_plan.specs.NamedStripes.{HasNamed, AreOfLocked}
-use Rattle.rc_plan.specs.Search.{searching, updating}
-use Rattle.rc_spec.specs.CallsLaws.{fits_at_op}
 
 -- ---- rising lists
 

@@ -1,36 +1,8 @@
 -- On which stripe a tuple falls, and which columns a tuple has.
 use Rattle.std.specs.Prelude.{◌≡◌, ℕ, ◌+◌, ◌<◌, Bool, true, false, List, [], ◌∷◌, ◌++◌, Option, cond, filter, get_or, length, take, unwrap_or}
-use Rattle.std.specs.List.{fold}
-use Rattle.std.specs.Ordering.{nat_cmp}
+use Rattle.rc_machine.proofs.Imports.{fold, nat_cmp, take-suc, map-append, filter-append, fold-append, In, IsRising, filter_in, get_or_in, has_in, in_append, in_filter, in_gather, in_has, nat_order, rising_filter, same_rising, slice_get_in, IsColSet, Within, has, union, in_range_bounds, in_union, rising_range, IsTuple, Pairs, cols_of, value, Agree, fewer_cols, in_project, one_pair, Call, Op, OpKind, Query, Insert, Remove, Update, Spec, IsSealed, Fits, all_columns, value_columns, row_in, bound, edge_at, AreBelow, IsOpAmong, class_at, class_of, hash_of, mix, physical_stripe, get_of, physical_stripe-agreeing, striping_in_target, AreStripesOf, IsStripeOf, ClassStripe, target_within}
 use Rattle.std.proofs.Common.{add-one, arith, ap, inl, inr, subst, refl, sym, ◌∙◌}
-use Rattle.std.proofs.Math.Seq.{take-suc}
-use Rattle.std.proofs.lemmas.List.{map-append}
-use Rattle.std.proofs.lemmas.List.Elements.{filter-append}
-use Rattle.std.proofs.lemmas.List.Sums.{fold-append}
-use Rattle.rc_tuple.specs.RisingSet.{In, IsRising}
-use Rattle.rc_tuple.specs.RisingSetLaws.{filter_in, get_or_in, has_in, in_append, in_filter, in_gather, in_has, nat_order, rising_filter, same_rising, slice_get_in}
-use Rattle.rc_tuple.specs.ColSet.{IsColSet, Within, has, union}
-use Rattle.rc_tuple.specs.ColSetLaws.{in_range_bounds, in_union, rising_range}
-use Rattle.rc_tuple.specs.Tuple.{IsTuple, Pairs, cols_of, value}
-use Rattle.rc_tuple.specs.TupleLaws.{Agree, fewer_cols, in_project, one_pair}
-use Rattle.rc_spec.specs.declared.call.Call.{Call}
-use Rattle.rc_spec.specs.declared.items.Op.{Op}
-use Rattle.rc_spec.specs.declared.items.OpKind.{OpKind}
-use Rattle.rc_spec.specs.declared.items.OpKind.TheVariants.{Query, Insert, Remove, Update}
-use Rattle.rc_spec.specs.declared.spec.Spec.{Spec}
-use Rattle.rc_spec.specs.Acceptance.{IsSealed}
-use Rattle.rc_spec.specs.Calls.{Fits, all_columns, value_columns}
-use Rattle.rc_spec.specs.CountedRows.{row_in}
-use Rattle.rc_spec.specs.Decomposition.{bound, edge_at}
-use Rattle.rc_spec.specs.InRange.{AreBelow, IsOpAmong}
-use Rattle.rc_spec.specs.Placement.{class_at, class_of}
-use Rattle.rc_spec.specs.Stripes.{hash_of, mix, physical_stripe}
-use Rattle.rc_bindings.specs.RegistersLaws.{get_of}
-use Rattle.rc_plan.specs.StripeLocksLaws.{physical_stripe-agreeing, striping_in_target}
-use Rattle.rc_machine.specs.Stripes.{AreStripesOf, IsStripeOf}
-use Rattle.rc_machine.specs.declared.stripe.ClassStripe.{ClassStripe}
 use Rattle.rc_machine.proofs.ApplyLemmas.{cols_of-row_in}
-use Rattle.rc_spec.specs.ContentsLaws.{target_within}
 
 -- a whole tuple falls on the stripe on which its row of an edge falls
 pub tuple_falls_with_row : (spec : Spec) → IsSealed spec → (t : Pairs) → cols_of t ≡ all_columns spec → (e : ℕ) → e < length spec.edges

@@ -1,43 +1,7 @@
 -- What an update knows of the tuple that it takes the place of.
 use Rattle.std.specs.Prelude.{◌≡◌, ℕ, ◌<◌, true, List, [], ◌∷◌, None, Option, Some, filter, length}
-use Rattle.std.specs.Ordering.{nat_cmp}
+use Rattle.rc_machine.proofs.Imports.{nat_cmp, slice_get_within, In, gather, put, in_gather, nat_order, slice_get_in, Within, in_range_below, Pairs, agree_on, cols_of, project, tuple_cmp, Follows, IsRelation, Satisfies, Dep, Call, Conflict, Updated, Op, OpKind, Query, Insert, Remove, Update, Range, Spec, IsSealed, Fits, GivesTuple, all_columns, fits_at_op, AllHeld, IsOpAmong, FindsByKey, class_of, op_at, Outcome, first_broken_dependency, plain, plain_by, updated_unless, without, plain-known, update-found, AreOfRelation, HeldStripe, Statement, CheckFound, Which, HasNamed, CoversOld, IsLocked, IsUpdate, Progress, after, pattern_columns, IsProbing, seen_at, IsSearching, StripeLock, stripes_of, IsOld, bindings_agree, old_in, old_is_named, locks_of, IsAt, IsOn}
 use Rattle.std.proofs.Common.{inr, refl, sym, ap, subst, ◌∙◌}
-use Rattle.std.proofs.lemmas.Option.{slice_get_within}
-use Rattle.rc_tuple.specs.RisingSet.{In, gather, put}
-use Rattle.rc_tuple.specs.RisingSetLaws.{in_gather, nat_order, slice_get_in}
-use Rattle.rc_tuple.specs.ColSet.{Within}
-use Rattle.rc_tuple.specs.ColSetLaws.{in_range_below}
-use Rattle.rc_tuple.specs.Tuple.{Pairs, agree_on, cols_of, project, tuple_cmp}
-use Rattle.rc_tuple.specs.Relation.{Follows, IsRelation, Satisfies}
-use Rattle.rc_tuple.specs.declared.dep.Dep.{Dep}
-use Rattle.rc_spec.specs.declared.call.Call.{Call}
-use Rattle.rc_spec.specs.declared.call.Reply.TheVariants.{Conflict, Updated}
-use Rattle.rc_spec.specs.declared.items.Op.{Op}
-use Rattle.rc_spec.specs.declared.items.OpKind.{OpKind}
-use Rattle.rc_spec.specs.declared.items.OpKind.TheVariants.{Query, Insert, Remove, Update}
-use Rattle.rc_spec.specs.declared.range.Range.{Range}
-use Rattle.rc_spec.specs.declared.spec.Spec.{Spec}
-use Rattle.rc_spec.specs.Acceptance.{IsSealed}
-use Rattle.rc_spec.specs.Calls.{Fits, GivesTuple, all_columns}
-use Rattle.rc_spec.specs.CallsLaws.{fits_at_op}
-use Rattle.rc_spec.specs.CountedRowsLaws.{AllHeld}
-use Rattle.rc_spec.specs.InRange.{IsOpAmong}
-use Rattle.rc_spec.specs.Placement.{FindsByKey, class_of, op_at}
-use Rattle.rc_spec.specs.Plain.{Outcome, first_broken_dependency, plain, plain_by, updated_unless, without}
-use Rattle.rc_spec.specs.PlainLaws.{plain-known, update-found}
-use Rattle.rc_fragment.specs.Holder.{AreOfRelation, HeldStripe}
-use Rattle.rc_plan.specs.declared.statement.Statement.{Statement}
-use Rattle.rc_plan.specs.declared.statement.Statement.TheVariants.{CheckFound}
-use Rattle.rc_plan.specs.declared.statement.Which.{Which}
-use Rattle.rc_plan.specs.NamedStripes.{HasNamed}
-use Rattle.rc_plan.specs.PlanRules.{CoversOld, IsLocked, IsUpdate, Progress, after, pattern_columns}
-use Rattle.rc_plan.specs.ProbeLaws.{IsProbing, seen_at}
-use Rattle.rc_plan.specs.Search.{IsSearching}
-use Rattle.rc_spec.specs.Locks.{StripeLock}
-use Rattle.rc_plan.specs.StripeLocks.{stripes_of}
-use Rattle.rc_plan.specs.UpdateLaws.{IsOld, bindings_agree, old_in, old_is_named}
-use Rattle.rc_machine.specs.Machine.{locks_of}
-use Rattle.rc_machine.specs.Run.{IsAt, IsOn}
 use Rattle.rc_machine.proofs.CheckStepLemmas.{check_on, whole_tuple}
 
 update_gives : (kind : OpKind) → IsUpdate kind → GivesTuple kind

@@ -1,27 +1,6 @@
 -- What a call takes and answers from the rows of one edge, on the stripe on which its arguments fall.
 use Rattle.std.specs.Prelude.{◌≡◌, ℕ, List, [], ◌∷◌, ◌++◌, IfOk, None, Option, Result, Some, drop, filter, map, take, true}
-use Rattle.std.specs.List.{list_any, zip}
-use Rattle.rc_tuple.specs.ColSet.{Within}
-use Rattle.rc_tuple.specs.RisingSet.{In}
-use Rattle.rc_tuple.specs.Tuple.{Pairs, matches, pick}
-use Rattle.rc_spec.specs.declared.call.Call.{Call}
-use Rattle.rc_spec.specs.declared.call.Reply.{Reply}
-use Rattle.rc_spec.specs.declared.call.Reply.TheVariants.{Rows}
-use Rattle.rc_spec.specs.declared.spec.Spec.{Spec}
-use Rattle.rc_spec.specs.Acceptance.{IsSealed}
-use Rattle.rc_spec.specs.Calls.{Fits, all_columns}
-use Rattle.rc_spec.specs.Fragments.{EdgeRow}
-use Rattle.rc_spec.specs.Placement.{class_of, op_at}
-use Rattle.rc_spec.specs.Plain.{Outcome, at_most}
-use Rattle.rc_spec.specs.Stripes.{physical_stripe}
-use Rattle.rc_fragment.specs.Fragment.{IsFoundAt, IsLookedUp, IsScan, edge_table}
-use Rattle.rc_fragment.specs.RowValues.{extra_columns, values_at}
-use Rattle.rc_fragment.specs.declared.shape.EdgeShape.{EdgeShape}
-use Rattle.rc_fragment.specs.Holder.{AreOfRelation, HeldStripe, Holding, held_of}
-use Rattle.rc_plan.specs.Access.{IsAccessPath, is_lock_of, is_read_of}
-use Rattle.rc_plan.specs.Compiled.{IsPlanOf, SpecWithPlans, plan_at}
-use Rattle.rc_plan.specs.declared.access.AccessPath.{AccessPath}
-use Rattle.rc_plan.specs.declared.statement.Statement.{Statement}
+use Rattle.rc_machine.specs.Imports.{list_any, zip, Within, In, Pairs, matches, pick, Call, Reply, Rows, Spec, IsSealed, Fits, all_columns, EdgeRow, class_of, op_at, Outcome, at_most, physical_stripe, IsFoundAt, IsLookedUp, IsScan, edge_table, extra_columns, values_at, EdgeShape, AreOfRelation, HeldStripe, Holding, held_of, IsAccessPath, is_lock_of, is_read_of, IsPlanOf, SpecWithPlans, plan_at, AccessPath, Statement}
 use Rattle.rc_machine.specs.Apply.{IsSameButLent}
 use Rattle.rc_machine.specs.Machine.{AreTakenAsOffered, HasAnswered, stripes_held}
 use Rattle.rc_machine.specs.Run.{IsAt}

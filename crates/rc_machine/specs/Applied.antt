@@ -1,16 +1,6 @@
 -- What Apply asks of held stripes, and what it does to them.
 use Rattle.std.specs.Prelude.{◌≡◌, List, [], ◌∷◌, None, Option, Some, map}
-use Rattle.rc_tuple.specs.RisingSet.{In}
-use Rattle.rc_tuple.specs.Tuple.{Pairs, cols_of}
-use Rattle.rc_spec.specs.declared.call.Reply.{Reply}
-use Rattle.rc_spec.specs.declared.call.Reply.TheVariants.{Absent, Inserted, Removed, Updated}
-use Rattle.rc_spec.specs.declared.items.OpKind.{OpKind}
-use Rattle.rc_spec.specs.declared.items.OpKind.TheVariants.{Query, Insert, Remove, Update}
-use Rattle.rc_spec.specs.declared.spec.Spec.{Spec}
-use Rattle.rc_spec.specs.Calls.{all_columns}
-use Rattle.rc_spec.specs.CountedRows.{lowered, raised}
-use Rattle.rc_spec.specs.Fragments.{edge_numbers}
-use Rattle.rc_fragment.specs.Holder.{HeldStripe, reverted}
+use Rattle.rc_machine.specs.Imports.{In, Pairs, cols_of, Reply, Absent, Inserted, Removed, Updated, OpKind, Query, Insert, Remove, Update, Spec, all_columns, lowered, raised, edge_numbers, HeldStripe, reverted}
 use Rattle.rc_machine.specs.Apply.{AreAddable, AreAllCounted, AreAllThere, AreExclusive, all_changed}
 
 -- the rows of each stripe are counted, and the tuple's can be added

@@ -1,22 +1,6 @@
 -- A tuple's rows added to the edges on held stripes, or taken out of them.
 use Rattle.std.specs.Prelude.{◌≡◌, ℕ, ◌<◌, ◌^◌, ◌==◌, ◌++◌, Bool, List, [], ◌∷◌, cond, filter, length, map, not}
-use Rattle.std.specs.List.{list_any}
-use Rattle.rc_tuple.specs.RisingSet.{AreDistinct, In}
-use Rattle.rc_tuple.specs.ColSet.{inter}
-use Rattle.rc_tuple.specs.Tuple.{Pairs}
-use Rattle.rc_spec.specs.declared.spec.Spec.{Spec}
-use Rattle.rc_spec.specs.CountedRows.{row_in}
-use Rattle.rc_spec.specs.CountedRowsLaws.{AreCountedRows}
-use Rattle.rc_spec.specs.Decomposition.{bound, edge_at}
-use Rattle.rc_spec.specs.Fragments.{EdgeRow, edge_numbers}
-use Rattle.rc_spec.specs.Placement.{class_of}
-use Rattle.rc_spec.specs.Stripes.{physical_stripe}
-use Rattle.rc_fragment.specs.declared.shape.EdgeShape.{EdgeShape}
-use Rattle.rc_fragment.specs.Fragment.{HasAlone, HasSingle, IsThere, edge_table}
-use Rattle.rc_fragment.specs.Holder.{HasRoomFor, HeldStripe, Holding, IsHeldExclusive, changed_at}
-use Rattle.rc_fragment.specs.Implied.{NumberedRow}
-use Rattle.rc_fragment.specs.ImpliedTables.{class_rows}
-use Rattle.rc_plan.specs.EdgeClasses.{class_edges}
+use Rattle.rc_machine.specs.Imports.{list_any, AreDistinct, In, inter, Pairs, Spec, row_in, AreCountedRows, bound, edge_at, EdgeRow, edge_numbers, class_of, physical_stripe, EdgeShape, HasAlone, HasSingle, IsThere, edge_table, HasRoomFor, HeldStripe, Holding, IsHeldExclusive, changed_at, NumberedRow, class_rows, class_edges}
 use Rattle.rc_machine.specs.declared.stripe.ClassStripe.{ClassStripe}
 
 -- the stripe on which a tuple's row of the edge falls

@@ -1,10 +1,5 @@
 -- How a check of a dependency tells an update's old tuple.
-use Rattle.std.specs.Prelude.{Bool, true, List, ℕ, None, Option, Some, not}
-use Rattle.std.specs.Ordering.{nat_cmp}
-use Rattle.rc_tuple.specs.RisingSet.{gather}
-use Rattle.rc_tuple.specs.Tuple.{Pairs, agree_on}
-use Rattle.rc_spec.specs.declared.items.OpKind.{OpKind}
-use Rattle.rc_spec.specs.declared.items.OpKind.TheVariants.{Query, Insert, Remove, Update}
+use Rattle.rc_machine.specs.Imports.{Bool, true, List, ℕ, None, Option, Some, not, nat_cmp, gather, Pairs, agree_on, OpKind, Query, Insert, Remove, Update}
 
 -- the columns at which an update's old tuple alone has the call's values
 abbrev pub told_by : OpKind → List ℕ → Option (List ℕ)

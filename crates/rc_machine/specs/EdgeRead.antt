@@ -1,10 +1,6 @@
 -- What a Read asks of its edge.
 use Rattle.std.specs.Prelude.{◌≡◌, ◌<◌, List, length}
-use Rattle.rc_spec.specs.Acceptance.{IsSealed}
-use Rattle.rc_spec.specs.Placement.{class_at, class_of}
-use Rattle.rc_fragment.specs.Fragment.{edge_table}
-use Rattle.rc_fragment.specs.declared.shape.EdgeShape.{EdgeShape}
-use Rattle.rc_plan.specs.Resolved.{IsResolvedEdge}
+use Rattle.rc_machine.specs.Imports.{IsSealed, class_at, class_of, edge_table, EdgeShape, IsResolvedEdge}
 use Rattle.rc_machine.specs.declared.edge_read.EdgeRead.{EdgeRead}
 
 -- what it has of the edge is the specification's

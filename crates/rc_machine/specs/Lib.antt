@@ -13,3 +13,4 @@ pub mod Run
 pub mod Stopped
 pub mod Stripes
 pub mod Workspace
+pub mod Imports

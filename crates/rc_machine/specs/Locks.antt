@@ -1,10 +1,6 @@
 -- Stripes taken one after another.
 use Rattle.std.specs.Prelude.{◌≡◌, ℕ, ◌++◌, List, Option}
-use Rattle.rc_tuple.specs.RisingSet.{In}
-use Rattle.rc_spec.specs.declared.lock.Mode.{Mode}
-use Rattle.rc_spec.specs.Fragments.{EdgeRow}
-use Rattle.rc_fragment.specs.declared.held.Held.{Held}
-use Rattle.rc_fragment.specs.Holder.{AreOffered, HasRisen, HeldStripe, Holding, IsAbove, IsRefusal, held_of, offered_at}
+use Rattle.rc_machine.specs.Imports.{In, Mode, EdgeRow, Held, AreOffered, HasRisen, HeldStripe, Holding, IsAbove, IsRefusal, held_of, offered_at}
 use Rattle.rc_machine.specs.Machine.{AreAsTaken, stripes_held}
 
 -- these stripes are held beside those of before, in the mode, each with the rows that were offered of it

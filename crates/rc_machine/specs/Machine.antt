@@ -1,22 +1,6 @@
 -- What a run of a plan over a holder leaves: held stripes, and a reply. (PLDI 2012, execution of query plans with two-phase locks.)
 use Rattle.std.specs.Prelude.{◌≡◌, ℕ, List, Result, Ok, Err, Some, IfOk, map}
-use Rattle.std.specs.List.{flat_map}
-use Rattle.std.specs.Ordering.{nat_cmp}
-use Rattle.rc_tuple.specs.RisingSet.{In, IsRising, gather}
-use Rattle.rc_tuple.specs.Tuple.{Pairs}
-use Rattle.rc_spec.specs.declared.call.Call.{Call}
-use Rattle.rc_spec.specs.declared.call.Reply.{Reply}
-use Rattle.rc_spec.specs.declared.lock.Mode.{Mode}
-use Rattle.rc_spec.specs.declared.lock.Mode.TheVariants.{Exclusive}
-use Rattle.rc_spec.specs.declared.spec.Spec.{Spec}
-use Rattle.rc_spec.specs.Fragments.{EdgeRow, edge_row_cmp, fragment_of}
-use Rattle.rc_spec.specs.Plain.{plain}
-use Rattle.rc_fragment.specs.declared.held.Held.{Held}
-use Rattle.rc_fragment.specs.Holder.{AreOffered, AreOfRelation, GoesOn, HasRisen, HeldStripe, Holding, IsAbove, IsRefusal, held_of, offered_at}
-use Rattle.rc_plan.specs.declared.statement.Statement.{Statement}
-use Rattle.rc_plan.specs.Compiled.{SpecWithPlans, plan_at}
-use Rattle.rc_plan.specs.Evaluation.{eval, rows_as_taken, touched}
-use Rattle.rc_spec.specs.Locks.{StripeLock}
+use Rattle.rc_machine.specs.Imports.{flat_map, nat_cmp, In, IsRising, gather, Pairs, Call, Reply, Mode, Exclusive, Spec, EdgeRow, edge_row_cmp, fragment_of, plain, Held, AreOffered, AreOfRelation, GoesOn, HasRisen, HeldStripe, Holding, IsAbove, IsRefusal, held_of, offered_at, Statement, SpecWithPlans, plan_at, eval, rows_as_taken, touched, StripeLock}
 use Rattle.rc_machine.specs.Stopped.{CountsOnlyHeld}
 use Rattle.rc_machine.specs.declared.stop.Stop.{Stop}
 use Rattle.rc_machine.specs.declared.stop.Stop.TheVariants as stop

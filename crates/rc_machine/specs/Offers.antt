@@ -1,12 +1,6 @@
 -- What a holder offers where its stripes are those of one relation.
 use Rattle.std.specs.Prelude.{◌≡◌, ℕ, ◌<◌, ◌^◌, List, Some, length}
-use Rattle.rc_tuple.specs.Relation.{IsRelation, Satisfies}
-use Rattle.rc_tuple.specs.Tuple.{Pairs}
-use Rattle.rc_spec.specs.declared.spec.Spec.{Spec}
-use Rattle.rc_spec.specs.Calls.{all_columns}
-use Rattle.rc_spec.specs.Fragments.{fragment_of}
-use Rattle.rc_spec.specs.Stripes.{stripe_total}
-use Rattle.rc_fragment.specs.Holder.{Holding, offered_at}
+use Rattle.rc_machine.specs.Imports.{IsRelation, Satisfies, Pairs, Spec, all_columns, fragment_of, stripe_total, Holding, offered_at}
 
 -- what is offered of each stripe is its fragment of one relation that satisfies the dependencies and has fewer than 2^63 tuples
 pub record OffersAll (spec : Spec) (s : Holding) (r : List Pairs) : Type 0 where

@@ -1,19 +1,7 @@
 -- What a served call takes from a holder that offers a relation, and what is offered of the other stripes.
 use Rattle.std.specs.Prelude.{◌≡◌, ℕ, ◌<◌, List, None, Some, get_or}
 use Rattle.std.proofs.Common.{sym, ap, subst, ◌∙◌}
-use Rattle.rc_tuple.specs.RisingSet.{In}
-use Rattle.rc_tuple.specs.RisingSetLaws.{in_map}
-use Rattle.rc_tuple.specs.Tuple.{Pairs}
-use Rattle.rc_spec.specs.declared.call.Call.{Call}
-use Rattle.rc_spec.specs.declared.call.Reply.{Reply}
-use Rattle.rc_spec.specs.declared.lock.Mode.TheVariants.{Exclusive}
-use Rattle.rc_spec.specs.declared.spec.Spec.{Spec}
-use Rattle.rc_spec.specs.Fragments.{fragment_of}
-use Rattle.rc_spec.specs.Plain.{plain}
-use Rattle.rc_spec.specs.Stripes.{stripe_total}
-use Rattle.rc_fragment.specs.Holder.{AreOffered, AreOfRelation, GoesOn, HeldStripe, Holding, IsHeld, held_of, offered_at}
-use Rattle.rc_spec.specs.Locks.{StripeLock}
-use Rattle.rc_plan.specs.declared.statement.Statement.{Statement}
+use Rattle.rc_machine.specs.Imports.{In, in_map, Pairs, Call, Reply, Exclusive, Spec, fragment_of, plain, stripe_total, AreOffered, AreOfRelation, GoesOn, HeldStripe, Holding, IsHeld, held_of, offered_at, StripeLock, Statement}
 use Rattle.rc_machine.specs.Machine.{AreTakenAsOffered, HasServed}
 use Rattle.rc_machine.specs.Offers.{OffersAll}
 

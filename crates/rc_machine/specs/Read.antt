@@ -1,20 +1,7 @@
 -- What a Read of an edge finds on held stripes.
 use Rattle.std.specs.Prelude.{◌≡◌, ℕ, true, List, ◌⊎◌}
-use Rattle.rc_tuple.specs.RisingSet.{In}
-use Rattle.rc_tuple.specs.ColSet.{Within, union}
-use Rattle.rc_tuple.specs.Tuple.{Pairs, agrees, cols_of, merge}
-use Rattle.rc_spec.specs.declared.spec.Spec.{Spec}
-use Rattle.rc_spec.specs.Decomposition.{bound, edge_at}
-use Rattle.rc_spec.specs.Fragments.{EdgeRow}
-use Rattle.rc_spec.specs.Placement.{class_at, class_of}
-use Rattle.rc_spec.specs.Stripes.{physical_stripe}
-use Rattle.rc_bindings.specs.Bindings.{BindingList, OneBinding}
-use Rattle.rc_fragment.specs.Fragment.{IsThere}
-use Rattle.rc_fragment.specs.Holder.{AreGoodRows, HeldStripe}
-use Rattle.rc_plan.specs.PlanRules.{IsFindable}
-use Rattle.rc_plan.specs.declared.statement.ReadMode.{ReadMode}
+use Rattle.rc_machine.specs.Imports.{In, Within, union, Pairs, agrees, cols_of, merge, Spec, bound, edge_at, EdgeRow, class_at, class_of, physical_stripe, BindingList, OneBinding, IsThere, AreGoodRows, HeldStripe, IsFindable, ReadMode, band}
 use Rattle.rc_machine.specs.Machine.{stripes_held}
-use Rattle.rc_plan.specs.StripeLocks.{band}
 
 -- The stripes on which a row of the class that agrees with the binding may fall are among these: where the binding has the columns that choose a stripe, that one, and else all of the class.
 pub record IsCovered (spec : Spec) (c : ℕ) (stripes : List ℕ) (b : Pairs) : Type 0 where

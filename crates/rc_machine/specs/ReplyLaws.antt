@@ -1,10 +1,7 @@
 -- Laws of answers whose replies are told into a place.
 use Rattle.std.specs.Prelude.{◌≡◌, Result, Ok, Err, IfErr, IfOk, OnOk}
 use Rattle.std.proofs.Common.{ap, subst}
-use Rattle.rc_spec.specs.declared.call.Call.{Call}
-use Rattle.rc_spec.specs.declared.call.Reply.{Reply}
-use Rattle.rc_fragment.specs.Holder.{Holding}
-use Rattle.rc_plan.specs.Compiled.{SpecWithPlans}
+use Rattle.rc_machine.specs.Imports.{Call, Reply, Holding, SpecWithPlans}
 use Rattle.rc_machine.specs.Machine.{HasAnswered, HasRunCall, told_answer}
 use Rattle.rc_machine.specs.Stopped.{CountsOnlyHeld}
 use Rattle.rc_machine.specs.declared.stop.Stop.{Stop}

@@ -1,31 +1,8 @@
 -- Where a run of a plan over held stripes stands.
 use Rattle.std.specs.Prelude.{◌≡◌, ℕ, true, List, [], ◌∷◌, None, Option, Some}
-use Rattle.std.specs.Ordering.{nat_cmp}
-use Rattle.rc_tuple.specs.RisingSet.{In, IsRising}
-use Rattle.rc_tuple.specs.ColSet.{Within}
-use Rattle.rc_tuple.specs.Tuple.{Pairs, cols_of, pair_cmp}
-use Rattle.rc_spec.specs.declared.call.Call.{Call}
-use Rattle.rc_spec.specs.declared.call.Reply.{Reply}
-use Rattle.rc_spec.specs.declared.call.Reply.TheVariants.{Absent}
-use Rattle.rc_spec.specs.declared.items.Op.{Op}
-use Rattle.rc_spec.specs.declared.lock.Mode.TheVariants.{Exclusive}
-use Rattle.rc_spec.specs.declared.spec.Spec.{Spec}
-use Rattle.rc_spec.specs.Calls.{GivesTuple, all_columns}
-use Rattle.rc_spec.specs.Fragments.{rows_on}
-use Rattle.rc_spec.specs.Placement.{class_at, op_at}
-use Rattle.rc_fragment.specs.Holder.{AreOfRelation, HeldStripe}
-use Rattle.rc_plan.specs.declared.statement.Statement.{Statement}
-use Rattle.rc_plan.specs.declared.statement.Which.{Which}
+use Rattle.rc_machine.specs.Imports.{nat_cmp, In, IsRising, Within, Pairs, cols_of, pair_cmp, Call, Reply, Absent, Op, Exclusive, Spec, GivesTuple, all_columns, rows_on, class_at, op_at, AreOfRelation, HeldStripe, Statement, Which, eval, run, AreKnown, Covers, IsQuery, IsUpdate, KeepsFrom, Progress, IsProbing, StripeLock, stripes_of, band, AreIn, HasNamed, AreOfLocked, IsSearching, updating, IsOld}
 use Rattle.rc_plan.specs.declared.statement.Which.TheVariants as which
-use Rattle.rc_plan.specs.Evaluation.{eval, run}
-use Rattle.rc_plan.specs.PlanRules.{AreKnown, Covers, IsQuery, IsUpdate, KeepsFrom, Progress}
-use Rattle.rc_plan.specs.ProbeLaws.{IsProbing}
-use Rattle.rc_spec.specs.Locks.{StripeLock}
-use Rattle.rc_plan.specs.StripeLocks.{stripes_of, band, AreIn}
 use Rattle.rc_machine.specs.Machine.{AreAsTaken, HasReplied, locks_of, stripes_held}
-use Rattle.rc_plan.specs.NamedStripes.{HasNamed, AreOfLocked}
-use Rattle.rc_plan.specs.Search.{IsSearching, updating}
-use Rattle.rc_plan.specs.UpdateLaws.{IsOld}
 
 -- what is known of a locked class: where keyed locks cover a read, the bindings have the columns that choose a stripe, and else all of its stripes are named
 abbrev pub IsClassTaken : Spec → Progress → List ℕ → ℕ → Which → Type 0

@@ -1,8 +1,7 @@
 -- The stop of a run whose take was refused.
 use Rattle.std.specs.Prelude.{◌≡◌, Result, Ok, Err}
-use Rattle.rc_fragment.specs.declared.held.TakeStop.{TakeStop}
+use Rattle.rc_machine.specs.Imports.{TakeStop, Holding}
 use Rattle.rc_fragment.specs.declared.held.TakeStop.TheVariants as take_stop
-use Rattle.rc_fragment.specs.Holder.{Holding}
 use Rattle.rc_machine.specs.declared.stop.Stop.{Stop}
 use Rattle.rc_machine.specs.declared.stop.Stop.TheVariants as stop
 

@@ -1,11 +1,6 @@
 -- Stripes on which a tuple falls.
 use Rattle.std.specs.Prelude.{◌≡◌, List}
-use Rattle.rc_tuple.specs.RisingSet.{In}
-use Rattle.rc_tuple.specs.ColSet.{Within}
-use Rattle.rc_tuple.specs.Tuple.{Pairs, cols_of}
-use Rattle.rc_spec.specs.declared.spec.Spec.{Spec}
-use Rattle.rc_spec.specs.Placement.{class_at}
-use Rattle.rc_spec.specs.Stripes.{physical_stripe}
+use Rattle.rc_machine.specs.Imports.{In, Within, Pairs, cols_of, Spec, class_at, physical_stripe}
 use Rattle.rc_machine.specs.declared.stripe.ClassStripe.{ClassStripe}
 
 -- the tuple, which has the class's columns, falls on this stripe of it

@@ -1,8 +1,6 @@
 -- What a run of a plan works with.
 use Rattle.std.specs.Prelude.{◌≡◌, None, Option, Some, length}
-use Rattle.rc_spec.specs.declared.call.Reply.{Reply}
-use Rattle.rc_spec.specs.declared.spec.Spec.{Spec}
-use Rattle.rc_bindings.specs.Bindings.{BindingList, with_tuples}
+use Rattle.rc_machine.specs.Imports.{Reply, Spec, BindingList, with_tuples}
 use Rattle.rc_machine.specs.declared.workspace.Workspace.{Workspace}
 
 -- the bindings have a register for each column of the specification

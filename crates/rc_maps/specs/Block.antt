@@ -1,8 +1,6 @@
 -- The rows of a block.
 use Rattle.std.specs.Prelude.{ℕ, ◌<◌, List, [], ◌∷◌, map}
-use Rattle.rc_edges.specs.Values.{Values}
-use Rattle.rc_edges.specs.EdgeMap.{Counted}
-use Rattle.rc_edges.specs.ListMap.{IsKeyed, Items}
+use Rattle.rc_maps.specs.Imports.{Values, Counted, IsKeyed, Items}
 use Rattle.rc_maps.specs.declared.block.Row.{Row}
 
 module _ {n : ℕ} where

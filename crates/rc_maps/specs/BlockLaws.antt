@@ -1,16 +1,8 @@
 -- Laws of a block's rows: what a search finds, and what a change at a place is to them.
 use Rattle.std.specs.Prelude.{◌≡◌, ℕ, zero, suc, ◌+◌, ◌<◌, ◌≤◌, Bool, true, false, cond, T, nat_lt, ◌==◌, ◌&&◌, ◌||◌, not, Option, None, Some, is_some, Result, Ok, Err, IfOk, IfErr, List, [], ◌∷◌, ◌++◌, length, map, take, slice_set, slice_index_or, insert, remove}
-use Rattle.std.specs.declared.cmp.Ordering.TheVariants.{Less, Equal, Greater}
-use Rattle.std.specs.declared.cmp.Ordering.{Ordering}
-use Rattle.std.specs.Ordering.{is_lt, nat_cmp, ordering_index, ordering_then}
-use Rattle.std.specs.Cmp.{nat_cmp_is}
+use Rattle.rc_maps.specs.Imports.{Less, Equal, Greater, Ordering, is_lt, nat_cmp, ordering_index, ordering_then, nat_cmp_is, is_sorted, len-entries, unwrap_or, below_all, IsBinarySearchResult, IsNonDecreasingBy, IsSearchInRange, list_any, slice_get, Values, values_cmp, Counted, Rows, extra_of, present, swept, IsAt, IsGap, IsKeyed, Items, count_in, rows_in, count_next, entries-whole, get_at, put_in, set_at, swept_filled, swept_out, writes_at, writes_gap, writes_out, head_below, less, tail_sorted}
 use Rattle.std.specs.FinMap as fin
-use Rattle.std.specs.FinMap.{is_sorted, len-entries}
-use Rattle.std.specs.Option.{unwrap_or}
-use Rattle.std.specs.FinMap.Entries.{below_all}
-use Rattle.std.specs.List.Sorted.{IsBinarySearchResult, IsNonDecreasingBy, IsSearchInRange}
 use Rattle.std.proofs.Common.{leb, refl, sym, ap, subst, ◌∙◌, arith}
-use Rattle.std.specs.List.{list_any, slice_get}
 use Rattle.std.proofs.lemmas.Bool.{eq-eqb, lt-ltb}
 use Rattle.std.proofs.lemmas.Bool.Decides.{nat_tests}
 use Rattle.std.proofs.lemmas.Cmp.{ranked}
@@ -18,11 +10,6 @@ use Rattle.std.proofs.lemmas.List.{drop-map, length-map, map-append, map-set, ta
 use Rattle.std.proofs.lemmas.Option.{none-some}
 use Rattle.std.proofs.lemmas.Simd.{map-map}
 use Rattle.std.proofs.Math.ListN.{get_or-map}
-use Rattle.rc_edges.specs.Values.{Values, values_cmp}
-use Rattle.rc_edges.specs.EdgeMap.{Counted, Rows, extra_of, present, swept}
-use Rattle.rc_edges.specs.ListMap.{IsAt, IsGap, IsKeyed, Items, count_in, rows_in}
-use Rattle.rc_edges.specs.ListMapLaws.{count_next, entries-whole, get_at, put_in, set_at, swept_filled, swept_out, writes_at, writes_gap, writes_out}
-use Rattle.rc_edges.specs.RowsLaws.{head_below, less, tail_sorted}
 use Rattle.rc_maps.specs.Block.{item_of, items_of}
 use Rattle.rc_maps.specs.Blocks.{begin_by}
 use Rattle.rc_maps.specs.Keyed.{by_one}

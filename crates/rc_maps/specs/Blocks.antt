@@ -1,13 +1,7 @@
 -- The rows of several blocks.
 use Rattle.std.specs.Prelude.{◌≡◌, ◌^◌, ℕ, zero, suc, ◌<◌, ◌≤◌, Bool, false, not, List, [], ◌∷◌, T, drop, length, slice_index_or}
-use Rattle.std.specs.List.{AllByRecursion, flat_map}
-use Rattle.std.specs.declared.cmp.Ordering.TheVariants.{Less}
-use Rattle.std.specs.Ordering.{is_lt}
+use Rattle.rc_maps.specs.Imports.{AllByRecursion, flat_map, Less, is_lt, below_all, Values, values_cmp, Rows, IsKeyed, Items}
 use Rattle.std.specs.FinMap as fin
-use Rattle.std.specs.FinMap.Entries.{below_all}
-use Rattle.rc_edges.specs.Values.{Values, values_cmp}
-use Rattle.rc_edges.specs.EdgeMap.{Rows}
-use Rattle.rc_edges.specs.ListMap.{IsKeyed, Items}
 
 -- the rows and tombstones of the blocks, one block behind the other
 abbrev pub items_in : List Rows → Items

@@ -1,24 +1,10 @@
 -- Laws of the rows of several blocks: the place of a key, and what a change of one block is to all rows.
 use Rattle.std.specs.Prelude.{◌≡◌, ◌^◌, ℕ, zero, suc, ◌+◌, ◌<◌, ◌≤◌, Bool, true, false, cond, not, T, ◌↔◌, Option, None, Some, IsSome, is_some, Result, Ok, Err, OnOk, OnErr, IfOk, List, [], ◌∷◌, ◌++◌, ◌-◌, length, take, drop, slice_set, slice_index_or, insert, remove}
-use Rattle.std.specs.Bool.{IsTrue}
-use Rattle.std.specs.List.{AllByRecursion}
-use Rattle.std.specs.List.Sorted.{IsPartitionPoint, IsPartitionedBy}
-use Rattle.std.specs.declared.cmp.Ordering.{Ordering}
-use Rattle.std.specs.declared.cmp.Ordering.TheVariants.{Less, Equal, Greater}
-use Rattle.std.specs.Ordering.{is_lt, is_eq, ordering_reverse}
-use Rattle.std.specs.Option.{option_and_then}
+use Rattle.rc_maps.specs.Imports.{IsTrue, AllByRecursion, IsPartitionPoint, IsPartitionedBy, Ordering, Less, Equal, Greater, is_lt, is_eq, ordering_reverse, option_and_then, find, put, empty_of_len, entries_sorted, entries-insert, get-entries, get-from_entries, get-remove, len-empty, len-entries, len-insert, len-remove, below_all, where_key, is_sorted-put, is_sorted-where_key, find-where_key, same_entries, by_order, Values, values_cmp, values_eq, values_order, test_symmetric, Counted, HasAsMany, IsAddedNew, Rows, count_at, count_of, found, once_less, once_more, one_less, present, swept, written, IsKeyed, Items, rows_in, entries-whole, total, same_answers, head_below, tail_sorted, below_more, find_below}
 use Rattle.std.specs.FinMap as fin
-use Rattle.std.specs.FinMap.{find, put, empty_of_len, entries_sorted, entries-insert, get-entries, get-from_entries, get-remove, len-empty, len-entries, len-insert, len-remove}
-use Rattle.std.specs.FinMap.Entries.{below_all, where_key, is_sorted-put, is_sorted-where_key, find-where_key, same_entries, by_order}
 use Rattle.std.proofs.Common.{refl, sym, ap, subst, ◌∙◌, arith}
 use Rattle.std.proofs.lemmas.Bool.{false≢true}
 use Rattle.std.proofs.lemmas.List.{append_assoc, length-append, length-set, take_all}
-use Rattle.rc_edges.specs.Values.{Values, values_cmp, values_eq}
-use Rattle.rc_edges.specs.ValuesLaws.{values_order, test_symmetric}
-use Rattle.rc_edges.specs.EdgeMap.{Counted, HasAsMany, IsAddedNew, Rows, count_at, count_of, found, once_less, once_more, one_less, present, swept, written}
-use Rattle.rc_edges.specs.ListMap.{IsKeyed, Items, rows_in}
-use Rattle.rc_edges.specs.ListMapLaws.{entries-whole}
-use Rattle.rc_edges.specs.RowsLaws.{total, same_answers, head_below, tail_sorted, below_more, find_below}
 use Rattle.rc_maps.specs.Blocks.{AreBelow, AreBlocks, HasRoom, IsOwn, begin_by, begins_by, items_in}
 use Rattle.rc_maps.specs.BlockLaws.{both, below_back, below_first, below_front, below_rest, keyed_back}
 

@@ -1,21 +1,13 @@
 -- Laws of walks over several blocks, one behind the other: their rows, listed, counted and in one block.
 use Rattle.std.specs.Prelude.{◌≡◌, ℕ, zero, suc, ◌+◌, ◌*◌, ◌^◌, ◌<◌, ◌≤◌, Bool, true, false, ◌↔◌, List, [], ◌∷◌, ◌++◌, length, take, drop, slice_index_or}
-use Rattle.std.specs.Bool.{IsTrue, MatchBool}
-use Rattle.std.specs.List.{AllWithin, HoldsAt, flat_map, sum_by}
-use Rattle.std.specs.Option.{option_map}
+use Rattle.rc_maps.specs.Imports.{IsTrue, MatchBool, AllWithin, HoldsAt, flat_map, sum_by, option_map, entries_sorted, len-entries, Values, Counted, Rows, current, listed, parts, present, IsKeyed, Items, count_in, rows_in, values_in, count_within, entries-whole, len-rows, listed-rows, entries-keep}
 use Rattle.std.specs.FinMap as fin
-use Rattle.std.specs.FinMap.{entries_sorted, len-entries}
 use Rattle.std.proofs.Common.{refl, sym, ap, subst, ◌∙◌, arith}
 use Rattle.std.proofs.lemmas.Bool.{false≢true}
 use Rattle.std.proofs.lemmas.List.{append_assoc, append-nil, length-append, take_all, take_more}
 use Rattle.std.proofs.lemmas.List.Concat.{flat_map-append}
 use Rattle.std.proofs.lemmas.List.Elements.{All-from_recursion, All-weaker, filter_map-append}
 use Rattle.std.proofs.lemmas.List.Sums.{sum_by-cons, sum_by-le}
-use Rattle.rc_edges.specs.Values.{Values}
-use Rattle.rc_edges.specs.EdgeMap.{Counted, Rows, current, listed, parts, present}
-use Rattle.rc_edges.specs.ListMap.{IsKeyed, Items, count_in, rows_in, values_in}
-use Rattle.rc_edges.specs.ListMapLaws.{count_within, entries-whole, len-rows, listed-rows}
-use Rattle.rc_edges.specs.RowsLaws.{entries-keep}
 use Rattle.rc_maps.specs.Blocks.{AreBlocks, items_in}
 use Rattle.rc_maps.specs.BlockLaws.{keyed_front}
 use Rattle.rc_maps.specs.BlocksLaws.{AreOf, behind_first, behind_is, entries_empty, rows_entries}

@@ -1,13 +1,8 @@
 -- Laws of hash maps of std from plain numbers and from vectors.
 use Rattle.std.specs.Prelude.{◌≡◌, ℕ, Bool, nat_eq, Option, List}
-use Rattle.std.specs.Cmp.Lexicographic.{pointwise}
-use Rattle.std.specs.List.{IsDistinct}
-use Rattle.std.specs.Map.{lookup, keys_of, KeepsOthers}
+use Rattle.rc_maps.specs.Imports.{pointwise, IsDistinct, lookup, keys_of, KeepsOthers, Values, values_cmp, pointwise_same, written}
 use Rattle.std.specs.FinMap as fin
 use Rattle.std.proofs.Common.{Vec, Global, sym, ap, ◌∙◌}
-use Rattle.rc_edges.specs.Values.{Values, values_cmp}
-use Rattle.rc_edges.specs.ValuesLaws.{pointwise_same}
-use Rattle.rc_edges.specs.EdgeMap.{written}
 use Rattle.rc_maps.specs.Keyed.{AreApart, by_many, by_one}
 use Rattle.rc_maps.specs.TableLaws.{apart_by_values, get-whole, many, one, one_eq, whole, whole-changed}
 

@@ -1,10 +1,7 @@
 -- What a hash table keeps.
 use Rattle.std.specs.Prelude.{◌≡◌, Bool, true, false, Option, ◌++◌}
-use Rattle.std.specs.Borrow.{LendsSo, MutBor, Fml, RattleType}
-use Rattle.std.specs.Option.{OnSome}
+use Rattle.rc_maps.specs.Imports.{LendsSo, MutBor, Fml, RattleType, OnSome, FinMap, Values, values_cmp}
 use Rattle.std.specs.FinMap as fin
-use Rattle.std.specs.FinMap.{FinMap}
-use Rattle.rc_edges.specs.Values.{Values, values_cmp}
 use Rattle.rc_maps.specs.Keyed.{by_many, by_one, by_two}
 use Rattle.rc_maps.specs.declared.hash_table.HashTable.{HashTable}
 use Rattle.rc_maps.specs.declared.hash_table.HashTable.TheVariants.{One, Many}

@@ -1,13 +1,8 @@
 -- Entries of tables, by their keys' values.
 use Rattle.std.specs.Prelude.{ℕ, Bool, List, [], ◌∷◌, T, map, is_some}
 use Rattle.std.specs.FinMap as fin
-use Rattle.std.specs.FinMap.{FinMap, is_sorted}
-use Rattle.std.specs.List.{IsDistinct}
-use Rattle.std.specs.Map.{keys_of}
+use Rattle.rc_maps.specs.Imports.{FinMap, is_sorted, IsDistinct, keys_of, Values, values_cmp, values_eq, Counted, present, values_in}
 use Rattle.std.proofs.Common.{Vec, Global}
-use Rattle.rc_edges.specs.Values.{Values, values_cmp, values_eq}
-use Rattle.rc_edges.specs.EdgeMap.{Counted, present}
-use Rattle.rc_edges.specs.ListMap.{values_in}
 use Rattle.rc_maps.specs.declared.keyed.Keyed.{Keyed}
 
 -- entries by plain numbers, as those by lists of one value

@@ -18,3 +18,4 @@ pub mod SplitLaws
 pub mod TableEdge
 pub mod TableLaws
 pub mod WalkLaws
+pub mod Imports

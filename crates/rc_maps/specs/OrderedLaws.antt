@@ -1,15 +1,9 @@
 -- Laws of ordered maps of std from plain numbers and from vectors.
 use Rattle.std.specs.Prelude.{◌≡◌, ℕ, Bool, Option, List}
-use Rattle.std.specs.BTreeMap.{is_at}
-use Rattle.std.specs.declared.cmp.Ordering.{Ordering}
-use Rattle.std.specs.Ordering.{eq_by_cmp, nat_cmp}
-use Rattle.std.specs.List.Sorted.{IsStrictlySortedBy}
-use Rattle.std.specs.Map.{lookup, keys_of, KeepsOthers}
+use Rattle.rc_maps.specs.Imports.{is_at, Ordering, eq_by_cmp, nat_cmp, IsStrictlySortedBy, lookup, keys_of, KeepsOthers, Values, values_cmp, written}
 use Rattle.std.specs.FinMap as fin
 use Rattle.std.proofs.Common.{refl, sym, ap, subst, ◌∙◌}
 use Rattle.std.proofs.lemmas.Map.Keys.{IsDistinct-from_sorted}
-use Rattle.rc_edges.specs.Values.{Values, values_cmp}
-use Rattle.rc_edges.specs.EdgeMap.{written}
 use Rattle.rc_maps.specs.Keyed.{AreApart, IsKeyed, by_many, by_one}
 use Rattle.rc_maps.specs.HashLaws.{VecKey}
 use Rattle.rc_maps.specs.TableLaws.{apart_by_values, get-whole, many, one, one_at, one_cmp, sorted_by_values, whole, whole-changed}

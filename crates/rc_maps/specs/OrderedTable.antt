@@ -1,10 +1,7 @@
 -- What an ordered table keeps.
 use Rattle.std.specs.Prelude.{◌≡◌, Bool, true, false, Option}
-use Rattle.std.specs.Borrow.{LendsSo, MutBor, Fml, RattleType}
-use Rattle.std.specs.Option.{OnSome}
+use Rattle.rc_maps.specs.Imports.{LendsSo, MutBor, Fml, RattleType, OnSome, FinMap, Values, values_cmp}
 use Rattle.std.specs.FinMap as fin
-use Rattle.std.specs.FinMap.{FinMap}
-use Rattle.rc_edges.specs.Values.{Values, values_cmp}
 use Rattle.rc_maps.specs.Keyed.{by_one, by_many}
 use Rattle.rc_maps.specs.declared.ordered_table.OrderedTable.{OrderedTable}
 use Rattle.rc_maps.specs.declared.ordered_table.OrderedTable.TheVariants.{One, Many}

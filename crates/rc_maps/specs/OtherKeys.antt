@@ -2,12 +2,8 @@
 use Rattle.std.specs.Prelude.{◌≡◌, IsTrue, Option}
 use mathlib.Core.Bool.{Bool-set}
 use mathlib.Core.HLevel.{is_prop→PathP}
-use Rattle.std.specs.Map.{keys_of}
-use Rattle.std.specs.Borrow.{LendsSo, MutBor, Fml, RattleType}
-use Rattle.std.specs.Option.{OnSome}
+use Rattle.rc_maps.specs.Imports.{keys_of, LendsSo, MutBor, Fml, RattleType, OnSome, FinMap, Values, values_cmp}
 use Rattle.std.specs.FinMap as fin
-use Rattle.std.specs.FinMap.{FinMap}
-use Rattle.rc_edges.specs.Values.{Values, values_cmp}
 use Rattle.rc_maps.specs.KeyLengths.{none_has_two}
 use Rattle.rc_maps.specs.Keyed.{by_many}
 use Rattle.rc_maps.specs.declared.other_keys.OtherKeys.{OtherKeys}

@@ -1,15 +1,10 @@
 -- Laws of a walk that adds the row of each entry that has one at the end of a list.
 use Rattle.std.specs.Prelude.{◌≡◌, ℕ, ◌+◌, ◌<◌, ◌≤◌, Result, Ok, Err, OnErr, List, [], ◌∷◌, ◌++◌, length, take, map, slice_index_or}
-use Rattle.std.specs.List.{flat_map}
+use Rattle.rc_maps.specs.Imports.{flat_map, option_map, Values, Counted, listed, parts, present, Items, IsKeyed, rows_in, values_in, listed-rows}
 use Rattle.std.proofs.Common.{sym, ap, ◌∙◌, arith}
 use Rattle.std.proofs.lemmas.List.{append_assoc, append-nil, take-append-le, take_all, take_more, map-append}
 use Rattle.std.proofs.lemmas.List.Concat.{flat_map-append}
 use Rattle.std.proofs.lemmas.List.Elements.{filter_map-append}
-use Rattle.std.specs.Option.{option_map}
-use Rattle.rc_edges.specs.Values.{Values}
-use Rattle.rc_edges.specs.EdgeMap.{Counted, listed, parts, present}
-use Rattle.rc_edges.specs.ListMap.{Items, IsKeyed, rows_in, values_in}
-use Rattle.rc_edges.specs.ListMapLaws.{listed-rows}
 use Rattle.rc_maps.specs.declared.keyed.Keyed.{Keyed}
 use Rattle.rc_maps.specs.Keyed.{pair_of, values_of_walk}
 

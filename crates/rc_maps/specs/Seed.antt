@@ -1,6 +1,5 @@
 -- What a seeded hasher computes.
-use Rattle.std.specs.Prelude.{ℕ, List}
-use Rattle.std.specs.List.{fold}
+use Rattle.rc_maps.specs.Imports.{ℕ, List, fold}
 use Rattle.std.specs.Hash as fed
 use Rattle.std.specs.Hash.FoldHasher as folding
 use Rattle.rc_maps.specs.declared.seed.Seed.{Seed}

@@ -1,18 +1,11 @@
 -- Laws of a map in two parts: keys of two values in the first, and all others in the second.
 use Rattle.std.specs.Prelude.{◌≡◌, ◌+◌, Bool, true, false, cond, nat_eq, not, IsTrue, Option, None, Some, IsSome, Result, Ok, Err, OnOk, OnErr, List, [], ◌∷◌, ◌++◌, length}
-use Rattle.std.specs.Cmp.Lexicographic.{pointwise}
-use Rattle.std.specs.List.{IsDistinct, AllByRecursion, list_all}
-use Rattle.std.specs.Map.{lookup, keys_of, values_of, KeepsOthers}
-use Rattle.std.specs.Option.{option_and_then, option_or}
+use Rattle.rc_maps.specs.Imports.{pointwise, AllByRecursion, list_all, lookup, keys_of, values_of, KeepsOthers, option_and_then, option_or, FinMap, find, get-from_entries, get-empty, Values, values_cmp, values_eq, pointwise_same, same_from_test, test_from_same, Counted, IsAddedNew, count_at, count_of, once_more, present, written, total, get-written, same_answers}
+use Rattle.std.specs.List.{IsDistinct}
 use Rattle.std.specs.FinMap as fin
-use Rattle.std.specs.FinMap.{FinMap, find, get-from_entries, get-empty}
 use Rattle.std.proofs.Common.{refl, sym, ap, subst, ◌∙◌}
 use Rattle.std.proofs.lemmas.Bool.{false≢true, eq-eqb, eqb-true, and_parts, and_from}
 use Rattle.std.proofs.lemmas.Option.{none-some}
-use Rattle.rc_edges.specs.Values.{Values, values_cmp, values_eq}
-use Rattle.rc_edges.specs.ValuesLaws.{pointwise_same, same_from_test, test_from_same}
-use Rattle.rc_edges.specs.EdgeMap.{Counted, IsAddedNew, count_at, count_of, once_more, present, written}
-use Rattle.rc_edges.specs.RowsLaws.{total, get-written, same_answers}
 use Rattle.rc_maps.specs.Keyed.{AreApart, by_many, by_two}
 use Rattle.rc_maps.specs.KeyLengths.{all_have_two, has_other, has_two, none_has_two}
 use Rattle.rc_maps.specs.HashLaws.{VecKey, apart_many, vec_eq}

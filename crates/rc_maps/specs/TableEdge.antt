@@ -1,11 +1,7 @@
 -- The rows of a container over a table.
 use Rattle.std.specs.Prelude.{◌≡◌, Bool, Option, refl}
-use Rattle.std.specs.Borrow.{LendsSo, MutBor, Fml, RattleType}
-use Rattle.std.specs.Coded.{Coded, code_by, coded_bool, coded×}
-use Rattle.std.specs.Option.{OnSome}
+use Rattle.rc_maps.specs.Imports.{LendsSo, MutBor, Fml, RattleType, Coded, code_by, coded_bool, coded×, OnSome, Values, Counted, Rows, rows_code}
 use Rattle.std.specs.FinMap as fin
-use Rattle.rc_edges.specs.Values.{Values}
-use Rattle.rc_edges.specs.EdgeMap.{Counted, Rows, rows_code}
 use Rattle.rc_edges.specs.contracts.entry.Entry.{the_row as entry_row}
 
 -- the rows that are kept, and whether only keys of one column are taken

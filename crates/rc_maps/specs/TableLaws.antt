@@ -1,23 +1,13 @@
 -- Laws of maps whose keys stand for lists of values: what a look-up finds, and what a change at one key is.
-use Rattle.std.specs.Option.{option_map, OnSome}
+use Rattle.rc_maps.specs.Imports.{option_map, OnSome, is_at, Ordering, Less, Equal, Greater, is_lt, nat_cmp, ordering_then, AllByRecursion, All, lookup, keys_of, values_of, IsKeyTest, FinMap, find, is_sorted, get-from_entries, get-empty, below_all, Values, values_cmp, values_eq, same_from_test, test_from_same, Counted, HasWidth, Rows, count_of, once_more, written, total, get-written, same_answers, written_again}
 use Rattle.std.specs.Prelude.{◌≡◌, ℕ, zero, suc, ◌+◌, ◌<◌, IsSome, Bool, true, false, cond, nat_eq, T, ◌&&◌, ◌↔◌, Option, None, Some, List, [], ◌∷◌, map, length}
-use Rattle.std.specs.BTreeMap.{is_at}
-use Rattle.std.specs.declared.cmp.Ordering.{Ordering}
-use Rattle.std.specs.declared.cmp.Ordering.TheVariants.{Less, Equal, Greater}
-use Rattle.std.specs.Ordering.{is_lt, nat_cmp, ordering_then}
-use Rattle.std.specs.List.{IsDistinct, AllByRecursion, All}
+use Rattle.std.specs.List.{IsDistinct}
 use Rattle.std.specs.List.Sorted.{IsStrictlySortedBy}
-use Rattle.std.specs.Map.{lookup, keys_of, values_of, KeepsOthers, IsKeyTest, AreApart as KeysApart}
+use Rattle.std.specs.Map.{KeepsOthers, AreApart as KeysApart}
 use Rattle.std.specs.FinMap as fin
-use Rattle.std.specs.FinMap.{FinMap, find, is_sorted, get-from_entries, get-empty}
-use Rattle.std.specs.FinMap.Entries.{below_all}
 use Rattle.std.proofs.Common.{Vec, Global, refl, sym, ap, subst, ◌∙◌, arith, slice_index_or}
 use Rattle.std.proofs.lemmas.Bool.Decides.{same_from_decides, Decides-eqb}
 use Rattle.std.proofs.lemmas.Option.{none-some}
-use Rattle.rc_edges.specs.Values.{Values, values_cmp, values_eq}
-use Rattle.rc_edges.specs.ValuesLaws.{same_from_test, test_from_same}
-use Rattle.rc_edges.specs.EdgeMap.{Counted, HasWidth, Rows, count_of, once_more, written}
-use Rattle.rc_edges.specs.RowsLaws.{total, get-written, same_answers, written_again}
 use Rattle.rc_maps.specs.Keyed.{AreApart, IsKeyed, by_one, pair_of}
 use Rattle.rc_maps.specs.declared.keyed.Keyed.{Keyed}
 

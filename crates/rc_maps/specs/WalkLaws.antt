@@ -1,17 +1,9 @@
 -- Laws of a walk over a table's entries, in an order of the table's own: sorted, counted and copied.
 use Rattle.std.specs.Prelude.{◌≡◌, ℕ, zero, suc, ◌+◌, Bool, true, false, cond, nat_lt, T, ◌<◌, ◌&&◌, ◌||◌, ◌↔◌, Option, None, Some, is_some, List, [], ◌∷◌, map, length}
-use Rattle.std.specs.declared.cmp.Ordering.{Ordering}
-use Rattle.std.specs.declared.cmp.Ordering.TheVariants.{Less, Equal, Greater}
-use Rattle.std.specs.Ordering.{is_lt, is_eq, ordering_reverse}
-use Rattle.std.specs.Cmp.{eq_by_cmp_equiv}
-use Rattle.std.specs.Bool.{IsTrue}
-use Rattle.std.specs.List.{IsDistinct, AllByRecursion, count_by, list_any}
-use Rattle.std.specs.List.Sorted.{IsPermutation, IsSortedBy, IsStrictlySortedBy}
-use Rattle.std.specs.Map.{lookup, keys_of, values_of}
-use Rattle.std.specs.Option.{option_and_then, option_or}
+use Rattle.rc_maps.specs.Imports.{Ordering, Less, Equal, Greater, is_lt, is_eq, ordering_reverse, eq_by_cmp_equiv, IsTrue, AllByRecursion, count_by, list_any, IsPermutation, IsSortedBy, lookup, keys_of, values_of, option_and_then, option_or, FinMap, find, get-from_entries, get-empty, len-insert, below_all, Values, values_cmp, values_eq, same_from_test, Counted, current, present, written, Items, rows_in, len-rows, total, get-written, same_answers, written_again, get-keep, keep-written, head_below, tail_sorted}
+use Rattle.std.specs.List.{IsDistinct}
+use Rattle.std.specs.List.Sorted.{IsStrictlySortedBy}
 use Rattle.std.specs.FinMap as fin
-use Rattle.std.specs.FinMap.{FinMap, find, get-from_entries, get-empty, len-insert}
-use Rattle.std.specs.FinMap.Entries.{below_all}
 use Rattle.std.proofs.Common.{refl, sym, ap, subst, ◌∙◌, arith, get_or}
 use Rattle.std.proofs.lemmas.Bool.{false≢true, lt-ltb, ltb-true}
 use Rattle.std.proofs.lemmas.List.Sums.{sum_by-cons}
@@ -19,12 +11,6 @@ use Rattle.std.proofs.lemmas.List.Sorted.{Contains-permutation, IsPermutation-sy
 use Rattle.std.proofs.lemmas.Map.Keys.{IsDistinct-head, IsDistinct-tail, IsDistinct-IsPermutation, sorted_from_all_adjacent, apart_from_distinct}
 use Rattle.std.proofs.lemmas.Map.Views.{Contains-from_lookup, lookup-from_Contains}
 use Rattle.std.proofs.lemmas.Option.{none-some}
-use Rattle.rc_edges.specs.Values.{Values, values_cmp, values_eq}
-use Rattle.rc_edges.specs.ValuesLaws.{same_from_test}
-use Rattle.rc_edges.specs.EdgeMap.{Counted, current, present, written}
-use Rattle.rc_edges.specs.ListMap.{Items, rows_in}
-use Rattle.rc_edges.specs.ListMapLaws.{len-rows}
-use Rattle.rc_edges.specs.RowsLaws.{total, get-written, same_answers, written_again, get-keep, keep-written, head_below, tail_sorted}
 use Rattle.rc_maps.specs.declared.keyed.Keyed.{Keyed}
 use Rattle.rc_maps.specs.Keyed.{AreApart, IsKeyed, has_row, pair_of}
 use Rattle.rc_maps.specs.TableLaws.{by_values, sorted_by_values}

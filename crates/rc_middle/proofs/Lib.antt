@@ -1,3 +1,4 @@
 mod OpenLemmas
 mod RelationLemmas
 mod StopLemmas
+mod Imports

@@ -1,14 +1,7 @@
 -- What taking a stripe above all that are held does to a holder.
 use Rattle.std.specs.Prelude.{◌≡◌, ℕ, ◌+◌, ◌<◌, ◌≤◌, ◌==◌, ◌⊎◌, Bool, true, false, [], ◌∷◌, List}
 use Rattle.std.proofs.Common.{inl, inr, refl, sym, ap, subst, arith, ◌∙◌}
-use Rattle.std.proofs.lemmas.Bool.{eq-eqb, eqb-true, false≢true}
-use Rattle.rc_tuple.specs.RisingSet.{In}
-use Rattle.rc_tuple.specs.RisingSetLaws.{in_append, append_in_left, append_in_right}
-use Rattle.rc_spec.specs.declared.lock.Mode.{Mode}
-use Rattle.rc_spec.specs.declared.lock.Mode.TheVariants.{Exclusive}
-use Rattle.rc_fragment.specs.Holder.{HeldStripe, HasTaken, Holding, IsAbove, IsHeld, IsHeldExclusive, held_of, just_taken}
-use Rattle.rc_fragment.specs.HoldingLaws.{held-taken}
-use Rattle.rc_middle.specs.Open.{AreExclusive}
+use Rattle.rc_middle.proofs.Imports.{eq-eqb, eqb-true, false≢true, In, in_append, append_in_left, append_in_right, Mode, Exclusive, HeldStripe, HasTaken, Holding, IsAbove, IsHeld, IsHeldExclusive, held_of, just_taken, held-taken, AreExclusive}
 
 module _ (old new : Holding) (stripe : ℕ) (mode : Mode) (t : HasTaken old new stripe mode) where
   -- each stripe held is one of before, or the one taken

@@ -1,31 +1,8 @@
 -- What calls, takes and a release do to an instance that is of a relation.
 use Rattle.std.specs.Prelude.{◌≡◌, ℕ, zero, suc, ◌+◌, ◌<◌, ◌^◌, List, [], ◌∷◌, None, Option, Some, get_or, length}
 use Rattle.std.proofs.Common.{inl, inr, refl, sym, ap, subst, arith, ◌∙◌}
-use Rattle.std.proofs.lemmas.Option.{same_Some, slice_get_within}
-use Rattle.rc_tuple.specs.RisingSet.{In}
-use Rattle.rc_tuple.specs.RisingSetLaws.{in_each, in_map}
-use Rattle.rc_tuple.specs.Relation.{IsRelation}
-use Rattle.rc_tuple.specs.Tuple.{Pairs, cols_of}
-use Rattle.rc_spec.specs.Calls.{Fits}
-use Rattle.rc_spec.specs.CallsLaws.{plain_keeps_relation}
-use Rattle.rc_spec.specs.Fragments.{EdgeRow, fragment_of}
-use Rattle.rc_spec.specs.Plain.{plain}
-use Rattle.rc_spec.specs.PlainLaws.{plain_satisfies}
-use Rattle.rc_spec.specs.Stripes.{stripe_total}
-use Rattle.rc_spec.specs.declared.call.Call.{Call}
-use Rattle.rc_spec.specs.declared.call.Reply.{Reply}
-use Rattle.rc_spec.specs.declared.lock.Mode.{Mode}
-use Rattle.rc_spec.specs.declared.spec.Spec.{Spec}
-use Rattle.rc_fragment.specs.Holder.{AreOffered, GoesOn, HasTaken, HeldStripe, Holding, IsAbove, IsHeld, all_reverted, held_of, reverted}
-use Rattle.rc_fragment.specs.HoldingLaws.{held-reverted}
-use Rattle.rc_instance.specs.Instance.{AreReleased, IsOfRelation, Stripe, held_from, holding, offered_at as instance_offers, table_of, taken_in}
-use Rattle.rc_instance.specs.InstanceLaws.{IsHeldFrom, held_of-holding, in_held_from, offered-length, released_law}
-use Rattle.rc_plan.specs.Compiled.{SpecWithPlans, plan_at}
-use Rattle.rc_machine.specs.Machine.{AreTakenAsOffered, HasAnswered, HasServed}
-use Rattle.rc_machine.specs.Offers.{OffersAll}
-use Rattle.rc_machine.specs.OffersLaws.{others_after, still_offers, taken_of_relation}
-use Rattle.rc_rel.specs.Over.{AreOver}
-use Rattle.rc_middle.specs.Relation.{HoldsRelation, KeepsRelations}
+use Rattle.rc_middle.proofs.Imports.{same_Some, slice_get_within, In, in_each, in_map, IsRelation, Pairs, cols_of, Fits, plain_keeps_relation, EdgeRow, fragment_of, plain, plain_satisfies, stripe_total, Call, Reply, Mode, Spec, AreOffered, GoesOn, HasTaken, HeldStripe, Holding, IsAbove, IsHeld, all_reverted, held_of, reverted, held-reverted, AreReleased, IsOfRelation, Stripe, held_from, holding, table_of, taken_in, IsHeldFrom, held_of-holding, in_held_from, offered-length, released_law, SpecWithPlans, plan_at, AreTakenAsOffered, HasAnswered, HasServed, OffersAll, others_after, still_offers, taken_of_relation, AreOver, HoldsRelation, KeepsRelations}
+use Rattle.rc_instance.specs.Instance.{offered_at as instance_offers}
 use Rattle.rc_middle.proofs.OpenLemmas.{not_held, split, still_held}
 
 -- a relation's tuples are over its columns

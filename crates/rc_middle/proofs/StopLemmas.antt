@@ -1,18 +1,6 @@
 -- What a holder that stops a plan tells of the instance round which it stands.
 use Rattle.std.specs.Prelude.{◌≡◌, ℕ, List, Option, None, Some, Result, OnErr, OnOk}
-use Rattle.std.proofs.Common.{inl, inr, refl, sym, ap, arith}
-use Rattle.std.proofs.lemmas.Result.{on_err_weaker, on_ok_weaker}
-use Rattle.rc_tuple.specs.Tuple.{Pairs}
-use Rattle.rc_spec.specs.Fragments.{EdgeRow}
-use Rattle.rc_spec.specs.declared.lock.Mode.{Mode}
-use Rattle.rc_fragment.specs.FragmentRows.{FragmentRows}
-use Rattle.rc_fragment.specs.Holder.{CanLower, CanRaise, HasRefused, HasRoomFor, HasTaken, HasTakenNothing, Holding, IsLent, IsPartlyAddedAt, all_reverted, with_changes_at, with_room_at, with_tuple_at, without_tuple_at}
-use Rattle.rc_fragment.specs.Implied.{lowered_all, raised_all}
-use Rattle.rc_fragment.specs.ImpliedTables.{class_rows}
-use Rattle.rc_fragment.specs.Tuples.{changes_of_class}
-use Rattle.rc_fragment.specs.declared.held.Held.{Held}
-use Rattle.rc_middle.specs.Stopping.{told_through}
-use Rattle.rc_middle.specs.declared.stopping.Refused.{Refused}
+use Rattle.rc_middle.proofs.Imports.{inl, inr, refl, sym, ap, arith, on_err_weaker, on_ok_weaker, Pairs, EdgeRow, Mode, FragmentRows, CanLower, CanRaise, HasRefused, HasRoomFor, HasTaken, HasTakenNothing, Holding, IsLent, IsPartlyAddedAt, all_reverted, with_changes_at, with_room_at, with_tuple_at, without_tuple_at, lowered_all, raised_all, class_rows, changes_of_class, Held, told_through, Refused}
 
 module _ (refused : Option Refused) (through : ℕ) where
   -- ---- what the instance makes of a call the holder does

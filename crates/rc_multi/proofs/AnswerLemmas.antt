@@ -1,13 +1,6 @@
 -- What `all` and `any` answer of a list, where the closure's answer says P of an element.
 use Rattle.std.proofs.Common.{◌≡◌, ℕ, Bool, true, false, List, [], ◌∷◌, Option, ◌<◌, ◌↔◌, MatchBool, MatchOption, get_or, length, arith, refl}
-use Rattle.std.specs.Bool.{IsTrue}
-use Rattle.std.specs.Fn.{Called}
-use Rattle.std.specs.Iterator.{YieldsThen}
-use Rattle.std.specs.List.{AllWithin, FoldsTo, HoldsAt}
-use Rattle.std.proofs.lemmas.Bool.{false≢true}
-use Rattle.std.proofs.lemmas.Iterator.{YieldsList, cases_from_all, cases_from_any}
-use Rattle.rc_tuple.specs.RisingSet.{In}
-use Rattle.rc_tuple.specs.RisingSetLaws.{get_or_in, in_from_places}
+use Rattle.rc_multi.proofs.Imports.{IsTrue, Called, YieldsThen, AllWithin, FoldsTo, HoldsAt, false≢true, YieldsList, cases_from_all, cases_from_any, In, get_or_in, in_from_places}
 use denote.Param.Members.{Mut}
 
 module _ {X : Type 0} (P : X → Type 0) where

@@ -1,29 +1,7 @@
 -- The locks of a class, found call by call.
 use Rattle.std.proofs.Common.{◌≡◌, ℕ, ◌+◌, ◌<◌, ◌≤◌, ◌-◌, Bool, true, false, List, [], ◌∷◌, ◌++◌, Some, None, filter, get_or, length, map, take, drop, sym, ap, subst, ◌∙◌, if◌then◌else◌, arith}
-use Rattle.std.specs.List.{insert, list_any}
-use Rattle.std.specs.Ordering.{match_ordering, nat_cmp}
-use Rattle.std.specs.declared.cmp.Ordering.{Ordering}
-use Rattle.std.specs.declared.cmp.Ordering.TheVariants.{Less, Equal, Greater}
-use Rattle.std.proofs.lemmas.List.{append-nil, drop-map, drop_at, drop_more, length-append, length-map, length-take-le, map-append, take-append-drop, take-append-le, take-map, take_at, take_more, take_rest}
-use Rattle.std.proofs.lemmas.Slice.{take-put_mid}
-use Rattle.std.proofs.lemmas.List.Edits.{insert-append_right}
-use Rattle.std.proofs.lemmas.List.Elements.{filter-append}
-use Rattle.std.proofs.lemmas.List.Folds.{list_any_more}
-use Rattle.std.proofs.lemmas.Simd.{map-map}
+use Rattle.rc_multi.proofs.Imports.{insert, list_any, match_ordering, nat_cmp, Ordering, Less, Equal, Greater, append-nil, drop-map, drop_at, drop_more, length-append, length-map, length-take-le, map-append, take-append-drop, take-append-le, take-map, take_at, take_more, take_rest, take-put_mid, insert-append_right, filter-append, list_any_more, map-map, IsPlace, gather, put, gather_more, nat_order, place_more, Mode, Exclusive, Shared, Spec, StripeLock, physical_stripe, band, stripes_of, CallWithPlan, ClassUse, class_locks, class_use, either, group_use, in_mode, with_chosen, stripes_in_mode, chosen_stripes, group_mode, group_stripes, locks_class, takes_any, writes_class}
 use borrow.Rule.Slice.PartMut.{put_mid}
-use Rattle.rc_tuple.specs.RisingSet.{IsPlace, gather, put}
-use Rattle.rc_tuple.specs.RisingSetLaws.{gather_more, nat_order, place_more}
-use Rattle.rc_spec.specs.declared.lock.Mode.{Mode}
-use Rattle.rc_spec.specs.declared.lock.Mode.TheVariants.{Exclusive, Shared}
-use Rattle.rc_spec.specs.declared.spec.Spec.{Spec}
-use Rattle.rc_spec.specs.Locks.{StripeLock}
-use Rattle.rc_spec.specs.Stripes.{physical_stripe}
-use Rattle.rc_plan.specs.StripeLocks.{band, stripes_of}
-use Rattle.rc_plan.specs.Turns.{CallWithPlan}
-use Rattle.rc_multi.specs.declared.class_lock.ClassUse.{ClassUse}
-use Rattle.rc_multi.specs.ClassUse.{class_locks, class_use, either, group_use, in_mode, with_chosen}
-use Rattle.rc_multi.specs.GroupLocksLaws.{stripes_in_mode}
-use Rattle.rc_multi.specs.GroupLocks.{chosen_stripes, group_mode, group_stripes, locks_class, takes_any, writes_class}
 
 -- ---- what plans ask
 

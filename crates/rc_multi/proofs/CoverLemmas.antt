@@ -1,27 +1,7 @@
 -- Which stripes a Lock may take.
 use Rattle.std.proofs.Common.{◌≡◌, Bool, true, false, List, Some, ◌<◌, length, refl, sym, subst, ◌∙◌, ◌↔◌}
-use Rattle.std.proofs.lemmas.Bool.{false≢true}
-use Rattle.rc_tuple.specs.RisingSet.{In}
-use Rattle.rc_tuple.specs.ColSet.{Within}
-use Rattle.rc_tuple.specs.ColSetLaws.{test_from_within, within_from_test}
-use Rattle.rc_tuple.specs.Tuple.{Pairs, cols_of}
-use Rattle.rc_spec.specs.declared.call.Call.{Call}
-use Rattle.rc_spec.specs.declared.spec.Spec.{Spec}
-use Rattle.rc_spec.specs.Locks.{StripeLock}
-use Rattle.rc_spec.specs.Placement.{IsPlaced, class_at}
-use Rattle.rc_spec.specs.Stripes.{physical_stripe}
-use Rattle.rc_fragment.specs.Holder.{MayTake}
-use Rattle.rc_plan.specs.declared.statement.Statement.{Statement}
-use Rattle.rc_plan.specs.declared.statement.Statement.TheVariants.{Lock}
-use Rattle.rc_plan.specs.declared.statement.Which.{Which}
+use Rattle.rc_multi.proofs.Imports.{false≢true, In, Within, test_from_within, within_from_test, Pairs, cols_of, Call, Spec, StripeLock, IsPlaced, class_at, physical_stripe, MayTake, Statement, Lock, Which, SpecWithPlans, plan_at, IsOfClass-physical_stripe, ClassLock, IsBandCovered, IsCovered, Covers, chooses, class_lock, may_be_any, lock_is}
 use Rattle.rc_plan.specs.declared.statement.Which.TheVariants as which
-use Rattle.rc_plan.specs.Compiled.{SpecWithPlans, plan_at}
-use Rattle.rc_plan.specs.StripeLocksLaws.{IsOfClass-physical_stripe}
-use Rattle.rc_multi.specs.declared.class_lock.ClassLock.{ClassLock}
-use Rattle.rc_multi.specs.Covering.{IsBandCovered, IsCovered}
-use Rattle.rc_multi.specs.Group.{Covers}
-use Rattle.rc_multi.specs.GroupLocks.{chooses, class_lock, may_be_any}
-use Rattle.rc_multi.specs.GroupLocksLaws.{lock_is}
 
 module _ (spec : Spec) (args : Pairs) (l : ClassLock) (locks : List StripeLock) where
   -- where it may be any of the class, all must be there

@@ -2,3 +2,4 @@ pub mod AnswerLemmas
 pub mod ClassLemmas
 pub mod CoverLemmas
 pub mod UseLemmas
+mod Imports

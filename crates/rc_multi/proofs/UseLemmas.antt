@@ -1,12 +1,5 @@
 -- Whether a plan locks the class of a stripe.
-use Rattle.std.proofs.Common.{ℕ, List, refl, subst}
-use Rattle.rc_tuple.specs.RisingSet.{In}
-use Rattle.rc_spec.specs.declared.spec.Spec.{Spec}
-use Rattle.rc_plan.specs.declared.statement.Statement.{Statement}
-use Rattle.rc_plan.specs.declared.statement.Statement.TheVariants.{Lock}
-use Rattle.rc_core.specs.Passes.{IsOfClassLocked}
-use Rattle.rc_multi.specs.GroupLocks.{LocksClassOf}
-use Rattle.rc_multi.specs.GroupLocksLaws.{lock_is}
+use Rattle.rc_multi.proofs.Imports.{ℕ, List, refl, subst, In, Spec, Statement, Lock, IsOfClassLocked, LocksClassOf, lock_is}
 
 -- where a statement of the plan does, the plan does
 pub plan_locks : (spec : Spec) (stripe : ℕ) (plan : List Statement) (s : Statement) → In s plan → LocksClassOf spec stripe s → IsOfClassLocked spec plan stripe

@@ -1,14 +1,6 @@
 -- What plans ask of a lock class, and which locks of it a group takes.
 use Rattle.std.specs.Prelude.{ℕ, ◌==◌, ◌&&◌, ◌||◌, Bool, List, map, if◌then◌else◌}
-use Rattle.std.specs.List.{list_any}
-use Rattle.std.specs.Ordering.{nat_cmp}
-use Rattle.rc_tuple.specs.RisingSet.{put}
-use Rattle.rc_spec.specs.declared.lock.Mode.{Mode}
-use Rattle.rc_spec.specs.declared.spec.Spec.{Spec}
-use Rattle.rc_spec.specs.Locks.{StripeLock}
-use Rattle.rc_spec.specs.Stripes.{physical_stripe}
-use Rattle.rc_plan.specs.declared.statement.Statement.{Statement}
-use Rattle.rc_plan.specs.Turns.{CallWithPlan}
+use Rattle.rc_multi.specs.Imports.{list_any, nat_cmp, put, Mode, Spec, StripeLock, physical_stripe, Statement, CallWithPlan}
 use Rattle.rc_multi.specs.declared.class_lock.ClassUse.{ClassUse}
 use Rattle.rc_multi.specs.GroupLocks.{chooses, class_lock, group_mode, group_stripes, is_exclusive, is_lock, locks_class, may_be_any, may_take_any, writes_class}
 

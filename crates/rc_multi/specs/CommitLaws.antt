@@ -1,40 +1,10 @@
 -- What a group leaves is what the commit of its entry asks for. (PLDI 2012, serializable transactions over two-phase locks.)
 use Rattle.std.specs.Prelude.{◌≡◌, ℕ, ◌<◌, ◌≤◌, ◌^◌, List, [], ◌∷◌, ◌++◌, Some, map, length}
-use Rattle.std.specs.List.{flat_map, AllByRecursion}
-use Rattle.std.specs.Ordering.{nat_cmp}
-use Rattle.std.specs.declared.cmp.Ordering.TheVariants.{Less}
+use Rattle.rc_multi.specs.Imports.{flat_map, AllByRecursion, nat_cmp, Less, In, IsRising, gather, in_map, map_in, nat_order, not_below_itself, Pairs, Call, Mode, Exclusive, Shared, Spec, Fits, EdgeRow, edge_row_cmp, fragment_of, on_stripes, rows_on, parts_law, pieces_law, plain, HeldStripe, Statement, IsCompiled, SpecWithPlans, plan_at, compiled_in_turn_law, own_plan_accepted, eval, AllServe, named_law, StripeLock, stripes_of, AllAreHeld, CallWithPlan, HasAcceptedPlan, eval_replies, plain_replies, rows_after, with_plan, with_plans, Step, AreLegalFrom, StepsFit, after_steps, Hold, PassState, calls_fit, relation_after_steps, HoldsNoMore, IsOfClassLocked, MayCommit, calls_with_plans, committed, next_of, renewed, renewed_as, rows_then, hold, rows_held, locks_of, rows_taken, stripes_held}
 use Rattle.std.proofs.Common.{refl, sym, ap, subst, ◌∙◌, inl, inr, arith}
 use Rattle.std.proofs.lemmas.List.Folds.{flat_map-map}
 use Rattle.std.proofs.lemmas.Simd.{map-map}
-use Rattle.rc_tuple.specs.RisingSet.{In, IsRising, gather}
-use Rattle.rc_tuple.specs.RisingSetLaws.{in_map, map_in, nat_order, not_below_itself}
-use Rattle.rc_tuple.specs.Tuple.{Pairs}
-use Rattle.rc_spec.specs.declared.call.Call.{Call}
-use Rattle.rc_spec.specs.declared.lock.Mode.{Mode}
-use Rattle.rc_spec.specs.declared.lock.Mode.TheVariants.{Exclusive, Shared}
-use Rattle.rc_spec.specs.declared.spec.Spec.{Spec}
-use Rattle.rc_spec.specs.Calls.{Fits}
-use Rattle.rc_spec.specs.Fragments.{EdgeRow, edge_row_cmp, fragment_of, on_stripes, rows_on}
-use Rattle.rc_spec.specs.FragmentsLaws.{parts_law, pieces_law}
-use Rattle.rc_spec.specs.Plain.{plain}
-use Rattle.rc_fragment.specs.Holder.{HeldStripe}
-use Rattle.rc_plan.specs.declared.statement.Statement.{Statement}
-use Rattle.rc_plan.specs.Compiled.{IsCompiled, SpecWithPlans, plan_at}
-use Rattle.rc_plan.specs.CompiledLaws.{compiled_in_turn_law, own_plan_accepted}
-use Rattle.rc_plan.specs.Evaluation.{eval}
-use Rattle.rc_plan.specs.Laws.{AllServe}
-use Rattle.rc_plan.specs.NamedStripesLaws.{named_law}
-use Rattle.rc_spec.specs.Locks.{StripeLock}
-use Rattle.rc_plan.specs.StripeLocks.{stripes_of}
-use Rattle.rc_plan.specs.Turns.{AllAreHeld, CallWithPlan, HasAcceptedPlan, eval_replies, plain_replies, rows_after, with_plan, with_plans}
-use Rattle.rc_rel.specs.declared.entry.Step.{Step}
-use Rattle.rc_rel.specs.History.{AreLegalFrom, StepsFit, after_steps}
-use Rattle.rc_core.specs.declared.state.Hold.{Hold}
-use Rattle.rc_core.specs.declared.state.PassState.{PassState}
-use Rattle.rc_core.specs.CommitLaws.{calls_fit, relation_after_steps}
-use Rattle.rc_core.specs.Passes.{HoldsNoMore, IsOfClassLocked, MayCommit, calls_with_plans, committed, next_of, renewed, renewed_as, rows_then}
-use Rattle.rc_core.specs.State.{hold, rows_held, locks_of as locks_held}
-use Rattle.rc_machine.specs.Machine.{locks_of, rows_taken, stripes_held}
+use Rattle.rc_core.specs.State.{locks_of as locks_held}
 use Rattle.rc_multi.specs.HeldStripes.{all_now, all_taken, hold_now, hold_taken}
 use Rattle.rc_multi.specs.GroupLocksLaws.{group_locks_are_locked}
 use Rattle.rc_multi.specs.Laws.{GroupsHoldNoMore, GroupsLeaveWhatIsCommitted, GroupsMayCommit}

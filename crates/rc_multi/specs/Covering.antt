@@ -1,15 +1,7 @@
 -- What locks have to have for a Lock of a plan.
 use Rattle.std.specs.Prelude.{◌≡◌, ℕ, List, Some}
-use Rattle.rc_tuple.specs.ColSet.{Within}
-use Rattle.rc_tuple.specs.Tuple.{Pairs, cols_of}
-use Rattle.rc_spec.specs.declared.lock.Mode.{Mode}
-use Rattle.rc_spec.specs.declared.spec.Spec.{Spec}
-use Rattle.rc_spec.specs.Locks.{StripeLock}
-use Rattle.rc_spec.specs.Placement.{class_at}
-use Rattle.rc_spec.specs.Stripes.{physical_stripe}
-use Rattle.rc_fragment.specs.Holder.{MayTake}
+use Rattle.rc_multi.specs.Imports.{Within, Pairs, cols_of, Mode, Spec, StripeLock, class_at, physical_stripe, MayTake, IsOfClass}
 use Rattle.rc_plan.specs.declared.statement.Which.TheVariants as which
-use Rattle.rc_plan.specs.StripeLocks.{IsOfClass}
 use Rattle.rc_multi.specs.declared.class_lock.ClassLock.{ClassLock}
 
 -- each stripe of the class is among the locks, in a mode that suffices

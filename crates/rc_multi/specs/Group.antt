@@ -1,24 +1,6 @@
 -- Several calls as one, over stripes that are all held before the first. (PLDI 2012, serializable transactions over two-phase locks.)
 use Rattle.std.specs.Prelude.{◌≡◌, ℕ, ◌+◌, ◌<◌, ◌^◌, ◌==◌, List, [], ◌∷◌, ◌++◌, length, map, Some, if◌then◌else◌}
-use Rattle.rc_tuple.specs.ColSet.{Within}
-use Rattle.rc_tuple.specs.RisingSet.{In}
-use Rattle.rc_tuple.specs.Relation.{IsRelation, Satisfies}
-use Rattle.rc_tuple.specs.Tuple.{Pairs}
-use Rattle.rc_spec.specs.declared.call.Call.{Call}
-use Rattle.rc_spec.specs.declared.call.Reply.{Reply}
-use Rattle.rc_spec.specs.declared.lock.Mode.TheVariants.{Exclusive}
-use Rattle.rc_spec.specs.declared.spec.Spec.{Spec}
-use Rattle.rc_spec.specs.Calls.{all_columns}
-use Rattle.rc_spec.specs.Fragments.{EdgeRow, fragment_of}
-use Rattle.rc_fragment.specs.Holder.{HeldStripe, MayTake}
-use Rattle.rc_plan.specs.declared.statement.Statement.{Statement}
-use Rattle.rc_plan.specs.Compiled.{SpecWithPlans, plan_at}
-use Rattle.rc_plan.specs.NamedStripes.{IsNamedBy}
-use Rattle.rc_plan.specs.StripeLocks.{stripes_of}
-use Rattle.rc_spec.specs.Locks.{StripeLock, Suffices}
-use Rattle.rc_rel.specs.declared.entry.Step.{Step}
-use Rattle.rc_rel.specs.History.{AreLegalFrom, after_steps}
-use Rattle.rc_machine.specs.Machine.{HasReplied, locks_of, stripes_held}
+use Rattle.rc_multi.specs.Imports.{Within, In, IsRelation, Satisfies, Pairs, Call, Reply, Exclusive, Spec, all_columns, EdgeRow, fragment_of, HeldStripe, MayTake, Statement, SpecWithPlans, plan_at, IsNamedBy, stripes_of, StripeLock, Suffices, Step, AreLegalFrom, after_steps, HasReplied, locks_of, stripes_held}
 
 -- ---- which locks suffice
 

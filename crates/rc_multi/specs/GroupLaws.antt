@@ -3,27 +3,7 @@ use Rattle.std.specs.Prelude.{◌≡◌, ℕ, ◌+◌, ◌≤◌, ◌==◌, Bool
 use Rattle.std.proofs.Common.{refl, sym, ap, subst, ◌∙◌, inl, inr, arith}
 use Rattle.std.proofs.lemmas.Bool.{eqb-true, eq-eqb, false≢true}
 use Rattle.std.proofs.lemmas.List.{length-append}
-use Rattle.rc_tuple.specs.RisingSet.{In}
-use Rattle.rc_tuple.specs.RisingSetLaws.{in_map, map_in}
-use Rattle.rc_tuple.specs.Relation.{IsRelation, Satisfies}
-use Rattle.rc_tuple.specs.Tuple.{Pairs}
-use Rattle.rc_spec.specs.declared.call.Call.{Call}
-use Rattle.rc_spec.specs.declared.call.Reply.{Reply}
-use Rattle.rc_spec.specs.declared.lock.Mode.{Mode}
-use Rattle.rc_spec.specs.declared.lock.Mode.TheVariants.{Exclusive, Shared}
-use Rattle.rc_spec.specs.declared.spec.Spec.{Spec}
-use Rattle.rc_spec.specs.Calls.{all_columns}
-use Rattle.rc_spec.specs.CallsLaws.{plain_keeps_relation}
-use Rattle.rc_spec.specs.Fragments.{EdgeRow, fragment_of}
-use Rattle.rc_spec.specs.Plain.{plain}
-use Rattle.rc_spec.specs.PlainLaws.{plain_satisfies, plain_grows}
-use Rattle.rc_fragment.specs.Holder.{AreOfRelation, HeldStripe}
-use Rattle.rc_plan.specs.declared.statement.Statement.{Statement}
-use Rattle.rc_spec.specs.Locks.{StripeLock, Suffices}
-use Rattle.rc_rel.specs.declared.entry.Step.{Step}
-use Rattle.rc_rel.specs.History.{StepsFit, after_steps}
-use Rattle.rc_rel.specs.HistoryLaws.{AreLegalFrom-append, after_steps-append}
-use Rattle.rc_machine.specs.Machine.{AreAsTaken, HasReplied, HasServed, locks_of}
+use Rattle.rc_multi.specs.Imports.{In, in_map, map_in, IsRelation, Satisfies, Pairs, Call, Reply, Mode, Exclusive, Shared, Spec, all_columns, plain_keeps_relation, EdgeRow, fragment_of, plain, plain_satisfies, plain_grows, AreOfRelation, HeldStripe, Statement, StripeLock, Suffices, Step, StepsFit, after_steps, AreLegalFrom-append, after_steps-append, AreAsTaken, HasReplied, HasServed, locks_of}
 use Rattle.rc_multi.specs.Group.{AreNowOf, AreOfRelationFor, HasRunOver, HasServedAll, HaveServed, now_after, with_part, with_step}
 
 -- ---- the relation after some steps

@@ -1,24 +1,8 @@
 -- The locks of a group: of each class that a plan of one of its calls locks, all stripes where some call may take any, and else those that the
 -- calls' arguments choose. (PLDI 2012, lock striping.)
 use Rattle.std.specs.Prelude.{◌≡◌, ℕ, ◌<◌, ◌==◌, ◌&&◌, not, Bool, true, false, List, Option, Some, None, map, filter, length, if◌then◌else◌}
-use Rattle.std.specs.List.{flat_map, list_any, range_with_len}
-use Rattle.std.specs.Ordering.{nat_cmp}
-use Rattle.rc_tuple.specs.RisingSet.{gather}
-use Rattle.rc_tuple.specs.ColSet.{is_within}
-use Rattle.rc_tuple.specs.Tuple.{Pairs, cols_of}
-use Rattle.rc_spec.specs.declared.call.Call.{Call}
-use Rattle.rc_spec.specs.declared.lock.Mode.{Mode}
-use Rattle.rc_spec.specs.declared.lock.Mode.TheVariants.{Exclusive, Shared}
-use Rattle.rc_spec.specs.declared.spec.Spec.{Spec}
-use Rattle.rc_spec.specs.Locks.{StripeLock}
-use Rattle.rc_spec.specs.Placement.{class_at}
-use Rattle.rc_spec.specs.Stripes.{physical_stripe}
-use Rattle.rc_plan.specs.declared.statement.Statement.{Statement}
-use Rattle.rc_plan.specs.declared.statement.Statement.TheVariants.{Lock, Probe, Read, CheckAbsent, CheckFound, CheckDep, Apply, Emit, Commit, Release}
-use Rattle.rc_plan.specs.declared.statement.Which.{Which}
+use Rattle.rc_multi.specs.Imports.{flat_map, list_any, range_with_len, nat_cmp, gather, is_within, Pairs, cols_of, Call, Mode, Exclusive, Shared, Spec, StripeLock, class_at, physical_stripe, Statement, Lock, Probe, Read, CheckAbsent, CheckFound, CheckDep, Apply, Emit, Commit, Release, Which, IsOfClass, band, CallWithPlan}
 use Rattle.rc_plan.specs.declared.statement.Which.TheVariants as which
-use Rattle.rc_plan.specs.StripeLocks.{IsOfClass, band}
-use Rattle.rc_plan.specs.Turns.{CallWithPlan}
 use Rattle.rc_multi.specs.declared.class_lock.ClassLock.{ClassLock}
 
 -- ---- which calls may be declared

@@ -1,42 +1,13 @@
 -- The locks of a group suffice for its calls.
 use Rattle.std.specs.Prelude.{◌≡◌, ◌↔◌, ℕ, zero, suc, ◌+◌, ◌++◌, ◌<◌, ◌≤◌, ◌==◌, ◌&&◌, ◌⊎◌, not, All, Bool, true, false, List, [], ◌∷◌, Option, None, Some, filter, get_or, length, map, nat_lt, if◌then◌else◌}
-use Rattle.std.specs.List.{flat_map, list_all, list_any, range_with_len}
-use Rattle.std.specs.Ordering.{nat_cmp}
-use Rattle.std.specs.Cmp.{nat_cmp_is}
-use Rattle.std.specs.declared.cmp.Ordering.TheVariants.{Less}
+use Rattle.rc_multi.specs.Imports.{flat_map, list_all, list_any, range_with_len, nat_cmp, nat_cmp_is, Less, In, IsRising, each_in, filter_in, flat_map_in, gather_in, get_or_in, in_append, in_contains, in_filter, in_flat_map, in_gather, in_list_all, in_map, list_all_in, map_in, nat_order, rising_gather, in_list_any, list_any_in, within_from_test, in_range_below, in_range_bounds, rising_range, cols_of, Call, Mode, Exclusive, Shared, Spec, Fits, IsPlaced, class_at, band_start, physical_stripe, stripe_total, no_class, Class, sum_by, band_before, Statement, Lock, Probe, Read, CheckAbsent, CheckFound, CheckDep, Apply, Emit, Commit, Release, Which, own_plan_accepted, IsNamedBy, StripeLock, Suffices, IsOfClass, band, stripes_of, IsOfClass-physical_stripe, band_of_class, in_stripes_of, CallWithPlan, with_plan, with_plans, IsOfClassLocked}
 use Rattle.std.proofs.Common.{refl, sym, ap, subst, ◌∙◌, inl, inr, arith}
 use Rattle.std.proofs.lemmas.Bool.{eqb-true, eq-eqb, false≢true, lt-ltb, ltb-true}
 use Rattle.std.proofs.lemmas.List.Elements.{All-contains, All-nil, All-cons}
 use Rattle.std.proofs.lemmas.Option.{slice_get_within}
-use Rattle.rc_tuple.specs.RisingSet.{In, IsRising}
-use Rattle.rc_tuple.specs.RisingSetLaws.{each_in, filter_in, flat_map_in, gather_in, get_or_in, in_append, in_contains, in_filter, in_flat_map, in_gather, in_list_all, in_map, list_all_in, map_in, nat_order, rising_gather}
-use Rattle.rc_tuple.specs.RelationLaws.{in_list_any, list_any_in}
-use Rattle.rc_tuple.specs.ColSetLaws.{within_from_test, in_range_below, in_range_bounds, rising_range}
-use Rattle.rc_tuple.specs.Tuple.{cols_of}
-use Rattle.rc_spec.specs.declared.call.Call.{Call}
-use Rattle.rc_spec.specs.declared.lock.Mode.{Mode}
-use Rattle.rc_spec.specs.declared.lock.Mode.TheVariants.{Exclusive, Shared}
-use Rattle.rc_spec.specs.declared.spec.Spec.{Spec}
-use Rattle.rc_spec.specs.Calls.{Fits}
-use Rattle.rc_spec.specs.Placement.{IsPlaced, class_at}
-use Rattle.rc_spec.specs.Stripes.{band_start, physical_stripe, stripe_total}
-use Rattle.rc_spec.specs.Placement.{no_class}
-use Rattle.rc_spec.specs.declared.items.Class.{Class}
 use Rattle.std.proofs.lemmas.List.Sums.{sum_by_more_le}
 use Rattle.std.proofs.lemmas.List.{take_all}
-use Rattle.std.specs.List.{sum_by}
-use Rattle.rc_spec.specs.StripesLaws.{band_before}
-use Rattle.rc_plan.specs.declared.statement.Statement.{Statement}
-use Rattle.rc_plan.specs.declared.statement.Statement.TheVariants.{Lock, Probe, Read, CheckAbsent, CheckFound, CheckDep, Apply, Emit, Commit, Release}
-use Rattle.rc_plan.specs.declared.statement.Which.{Which}
 use Rattle.rc_plan.specs.declared.statement.Which.TheVariants as which
-use Rattle.rc_plan.specs.CompiledLaws.{own_plan_accepted}
-use Rattle.rc_plan.specs.NamedStripes.{IsNamedBy}
-use Rattle.rc_spec.specs.Locks.{StripeLock, Suffices}
-use Rattle.rc_plan.specs.StripeLocks.{IsOfClass, band, stripes_of}
-use Rattle.rc_plan.specs.StripeLocksLaws.{IsOfClass-physical_stripe, band_of_class, in_stripes_of}
-use Rattle.rc_plan.specs.Turns.{CallWithPlan, with_plan, with_plans}
-use Rattle.rc_core.specs.Passes.{IsOfClassLocked}
 use Rattle.rc_multi.specs.declared.class_lock.ClassLock.{ClassLock}
 use Rattle.rc_multi.specs.ClassUse.{class_locks, in_mode}
 use Rattle.rc_multi.specs.Laws.{CallsThatFitHaveOperations, GroupLocksAreLocked, GroupLocksLieInside, GroupLocksRise, GroupLocksSuffice}

@@ -1,15 +1,6 @@
 -- What the run of a group leaves, and where it stands.
 use Rattle.std.specs.Prelude.{◌≡◌, ℕ, List, length, map, take}
-use Rattle.std.specs.Ordering.{nat_cmp}
-use Rattle.rc_tuple.specs.RisingSet.{IsRising}
-use Rattle.rc_tuple.specs.Tuple.{Pairs}
-use Rattle.rc_spec.specs.declared.call.Call.{Call}
-use Rattle.rc_spec.specs.declared.call.Reply.{Reply}
-use Rattle.rc_spec.specs.declared.spec.Spec.{Spec}
-use Rattle.rc_fragment.specs.Holder.{HeldStripe}
-use Rattle.rc_rel.specs.declared.entry.Step.{Step}
-use Rattle.rc_core.specs.declared.state.Hold.{Hold}
-use Rattle.rc_machine.specs.Machine.{stripes_held}
+use Rattle.rc_multi.specs.Imports.{nat_cmp, IsRising, Pairs, Call, Reply, Spec, HeldStripe, Step, Hold, stripes_held}
 use Rattle.rc_multi.specs.Group.{AreOfRelationFor, HaveServed}
 use Rattle.rc_multi.specs.HeldStripes.{all_taken}
 

@@ -1,25 +1,8 @@
 -- The run of a group goes on from call to call.
 use Rattle.std.specs.Prelude.{◌≡◌, ℕ, zero, suc, ◌+◌, ◌<◌, ◌≤◌, List, [], ◌∷◌, ◌++◌, get_or, length, map, take}
-use Rattle.std.specs.List.{AllByRecursion}
-use Rattle.std.specs.Ordering.{nat_cmp}
+use Rattle.rc_multi.specs.Imports.{AllByRecursion, nat_cmp, In, IsRising, in_map, Pairs, Call, Reply, Spec, Fits, fragment_of, HeldStripe, Statement, StripeLock, SpecWithPlans, Step, StepsFit, after_steps, Hold, AreAsTaken, locks_of, stripes_held}
 use Rattle.std.proofs.Common.{refl, sym, ap, subst, ◌∙◌, arith}
 use Rattle.std.proofs.lemmas.List.{length-map, map-append, take_more}
-use Rattle.rc_tuple.specs.RisingSet.{In, IsRising}
-use Rattle.rc_tuple.specs.RisingSetLaws.{in_map}
-use Rattle.rc_tuple.specs.Tuple.{Pairs}
-use Rattle.rc_spec.specs.declared.call.Call.{Call}
-use Rattle.rc_spec.specs.declared.call.Reply.{Reply}
-use Rattle.rc_spec.specs.declared.spec.Spec.{Spec}
-use Rattle.rc_spec.specs.Calls.{Fits}
-use Rattle.rc_spec.specs.Fragments.{fragment_of}
-use Rattle.rc_fragment.specs.Holder.{HeldStripe}
-use Rattle.rc_plan.specs.declared.statement.Statement.{Statement}
-use Rattle.rc_spec.specs.Locks.{StripeLock}
-use Rattle.rc_plan.specs.Compiled.{SpecWithPlans}
-use Rattle.rc_rel.specs.declared.entry.Step.{Step}
-use Rattle.rc_rel.specs.History.{StepsFit, after_steps}
-use Rattle.rc_core.specs.declared.state.Hold.{Hold}
-use Rattle.rc_machine.specs.Machine.{AreAsTaken, locks_of, stripes_held}
 use Rattle.rc_multi.specs.Group.{AreNowOf, AreOfRelationFor, HasRunIn, Suffice, with_part, with_step}
 use Rattle.rc_multi.specs.GroupLaws.{now_of_relation, served_more, served_none}
 use Rattle.rc_multi.specs.GroupRun.{IsGroupAt}

@@ -1,8 +1,5 @@
 -- What a holder holds, as the core has it.
-use Rattle.std.specs.Prelude.{List, map}
-use Rattle.rc_fragment.specs.Holder.{HeldStripe}
-use Rattle.rc_core.specs.declared.state.Hold.{Hold}
-use Rattle.rc_core.specs.State.{hold}
+use Rattle.rc_multi.specs.Imports.{List, map, HeldStripe, Hold, hold}
 
 -- a held stripe with its rows as they were taken, and with those that it has now
 abbrev pub hold_taken : HeldStripe → Hold

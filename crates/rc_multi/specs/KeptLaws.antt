@@ -1,29 +1,9 @@
 -- What an open transaction, which declared more than it used, keeps for its commit: where it gives back stripes that no run of its calls needs, what is
 -- left has served the same calls and may be committed, and what is given back is as it was taken.
 use Rattle.std.specs.Prelude.{◌≡◌, ℕ, List, [], ◌∷◌, map, length}
-use Rattle.std.specs.Ordering.{nat_cmp}
+use Rattle.rc_multi.specs.Imports.{nat_cmp, In, IsRising, in_map, map_in, nat_order, same_rising, Pairs, Call, Reply, Mode, Exclusive, fragment_of, rows_on, StripeLock, Suffices, HeldStripe, IsCompiled, SpecWithPlans, plan_at, eval, stripes_of, stripes_of_in, Step, StepsFit, PassState, relation_after_steps, HoldsNoMore, IsOfClassLocked, rows_held, AreAsTaken, locks_of, rows_taken, stripes_held}
 use Rattle.std.proofs.Common.{sym, ap, subst, ◌∙◌, ◌≤◌, arith}
-use Rattle.rc_tuple.specs.RisingSet.{In, IsRising}
-use Rattle.rc_tuple.specs.RisingSetLaws.{in_map, map_in, nat_order, same_rising}
-use Rattle.rc_tuple.specs.Tuple.{Pairs}
-use Rattle.rc_spec.specs.declared.call.Call.{Call}
-use Rattle.rc_spec.specs.declared.call.Reply.{Reply}
-use Rattle.rc_spec.specs.declared.lock.Mode.{Mode}
-use Rattle.rc_spec.specs.declared.lock.Mode.TheVariants.{Exclusive}
-use Rattle.rc_spec.specs.Fragments.{fragment_of, rows_on}
-use Rattle.rc_spec.specs.Locks.{StripeLock, Suffices}
-use Rattle.rc_fragment.specs.Holder.{HeldStripe}
-use Rattle.rc_plan.specs.Compiled.{IsCompiled, SpecWithPlans, plan_at}
-use Rattle.rc_plan.specs.Evaluation.{eval}
-use Rattle.rc_plan.specs.StripeLocks.{stripes_of}
-use Rattle.rc_plan.specs.StripeLocksLaws.{stripes_of_in}
-use Rattle.rc_rel.specs.declared.entry.Step.{Step}
-use Rattle.rc_rel.specs.History.{StepsFit}
-use Rattle.rc_core.specs.declared.state.PassState.{PassState}
-use Rattle.rc_core.specs.CommitLaws.{relation_after_steps}
-use Rattle.rc_core.specs.Passes.{HoldsNoMore, IsOfClassLocked}
-use Rattle.rc_core.specs.State.{rows_held, locks_of as locks_held}
-use Rattle.rc_machine.specs.Machine.{AreAsTaken, locks_of, rows_taken, stripes_held}
+use Rattle.rc_core.specs.State.{locks_of as locks_held}
 use Rattle.rc_multi.specs.CommitLaws.{HoldsNamed, all_serve, holds_named, is_committed, locks_are, may_commit, one_held, rows_are, rows_of_relation, stripes_are}
 use Rattle.rc_multi.specs.Group.{AreOfRelationFor, HasRunIn, HasServedAll, Suffice, with_part}
 use Rattle.rc_multi.specs.GroupRunLaws.{relation_after_part, stripes_after}

@@ -1,26 +1,7 @@
 -- The laws of groups, each named by the contract of a function.
 use Rattle.std.specs.Prelude.{◌≡◌, ℕ, ◌<◌, ◌≤◌, ◌^◌, List, [], ◌∷◌, length, map, All}
-use Rattle.std.specs.List.{AllByRecursion}
-use Rattle.std.specs.Ordering.{nat_cmp}
-use Rattle.rc_tuple.specs.ColSet.{Within}
-use Rattle.rc_tuple.specs.RisingSet.{In, IsRising}
-use Rattle.rc_tuple.specs.Tuple.{Pairs}
-use Rattle.rc_spec.specs.declared.call.Call.{Call}
-use Rattle.rc_spec.specs.declared.call.Reply.{Reply}
-use Rattle.rc_spec.specs.declared.spec.Spec.{Spec}
-use Rattle.rc_spec.specs.Calls.{Fits}
-use Rattle.rc_spec.specs.Placement.{IsPlaced}
-use Rattle.rc_spec.specs.Stripes.{stripe_total}
-use Rattle.rc_fragment.specs.Holder.{HeldStripe}
-use Rattle.rc_plan.specs.Compiled.{IsCompiled, SpecWithPlans, plan_at}
-use Rattle.rc_plan.specs.StripeLocks.{stripes_of}
-use Rattle.rc_plan.specs.Turns.{CallWithPlan, with_plans}
-use Rattle.rc_rel.specs.declared.entry.Step.{Step}
-use Rattle.rc_rel.specs.History.{StepsFit}
-use Rattle.rc_core.specs.declared.state.PassState.{PassState}
-use Rattle.rc_core.specs.Passes.{HoldsNoMore, IsOfClassLocked, MayCommit, calls_with_plans, committed, next_of}
+use Rattle.rc_multi.specs.Imports.{AllByRecursion, nat_cmp, Within, In, IsRising, Pairs, Call, Reply, Spec, Fits, IsPlaced, stripe_total, HeldStripe, IsCompiled, SpecWithPlans, plan_at, stripes_of, CallWithPlan, with_plans, Step, StepsFit, PassState, HoldsNoMore, IsOfClassLocked, MayCommit, calls_with_plans, committed, next_of, AreAsTaken, locks_of, stripes_held}
 use Rattle.rc_core.specs.State.{locks_of as locks_held}
-use Rattle.rc_machine.specs.Machine.{AreAsTaken, locks_of, stripes_held}
 use Rattle.rc_multi.specs.Group.{AreOfRelationFor, HasRunIn, HasServedAll, Suffice}
 use Rattle.rc_multi.specs.GroupLocks.{HasOperation, group_locks}
 use Rattle.rc_multi.specs.HeldStripes.{all_now, all_taken}

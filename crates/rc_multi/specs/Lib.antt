@@ -15,3 +15,4 @@ pub mod UseLaws
 pub mod OfferedLaws
 pub mod Offering
 pub mod OfferingLaws
+pub mod Imports

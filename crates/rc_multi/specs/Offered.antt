@@ -1,8 +1,6 @@
 -- For which specification a group's holder is sound, and whose it is.
 use Rattle.std.specs.Prelude.{◌≡◌, List, Option, Some, None}
-use Rattle.rc_tuple.specs.Tuple.{Pairs}
-use Rattle.rc_spec.specs.declared.spec.Spec.{Spec}
-use Rattle.rc_fragment.specs.Holder.{Holding, held_of}
+use Rattle.rc_multi.specs.Imports.{Pairs, Spec, Holding, held_of}
 use Rattle.rc_multi.specs.Group.{AreNowOf}
 
 -- where a plan of a group starts: the specification, and what the group's holder tells, which holds stripes that now are of one relation

@@ -1,22 +1,8 @@
 -- What is offered is so in one way.
 use Rattle.std.specs.Prelude.{◌≡◌, ℕ, ◌<◌, Bool, true, false, if◌then◌else◌, List, [], ◌∷◌, ◌++◌, Option, Some, None, Result, Ok, Err, OnOk, OnErr, ◌^◌}
 use Rattle.std.proofs.Common.{refl, sym, ap, subst, ◌∙◌, inl, inr, arith}
-use Rattle.std.specs.Ordering.{nat_cmp}
+use Rattle.rc_multi.specs.Imports.{nat_cmp, In, IsRising, EdgeRow, Mode, Exclusive, Shared, Spec, AreOfOneRelation, HasRisen, HasTaken, HeldStripe, Holding, IsHeld, IsHeldExclusive, IsPartlyAddedAt, LentStripe, MayTake, held_of, with_changes_at, StripeLock, Suffices, IsSameButLent, HasReplied, locks_of, stripes_held, Pairs, IsChangedAt, partly_changed, Call, Reply, Statement}
 use Rattle.std.proofs.Props.{props}
-use Rattle.rc_tuple.specs.RisingSet.{In, IsRising}
-use Rattle.rc_spec.specs.Fragments.{EdgeRow}
-use Rattle.rc_spec.specs.declared.lock.Mode.{Mode}
-use Rattle.rc_spec.specs.declared.lock.Mode.TheVariants.{Exclusive, Shared}
-use Rattle.rc_spec.specs.declared.spec.Spec.{Spec}
-use Rattle.rc_fragment.specs.Holder.{AreOfOneRelation, HasRisen, HasTaken, HeldStripe, Holding, IsHeld, IsHeldExclusive, IsPartlyAddedAt, LentStripe, MayTake, held_of, with_changes_at}
-use Rattle.rc_spec.specs.Locks.{StripeLock, Suffices}
-use Rattle.rc_machine.specs.Apply.{IsSameButLent}
-use Rattle.rc_machine.specs.Machine.{HasReplied, locks_of, stripes_held}
-use Rattle.rc_tuple.specs.Tuple.{Pairs}
-use Rattle.rc_fragment.specs.HoldingLaws.{IsChangedAt, partly_changed}
-use Rattle.rc_spec.specs.declared.call.Call.{Call}
-use Rattle.rc_spec.specs.declared.call.Reply.{Reply}
-use Rattle.rc_plan.specs.declared.statement.Statement.{Statement}
 use Rattle.rc_multi.specs.Group.{AreNowOf, HasRunTaking}
 use Rattle.rc_multi.specs.Offered.{IsFrom, IsFromSo, Start}
 use Rattle.rc_multi.specs.Offering.{IsOffered, offering}

@@ -1,12 +1,6 @@
 -- What the holder of a group tells a plan: of the stripes that the group holds those that the plan has taken, each with its rows at the plan's start as those with which it was taken.
 use Rattle.std.specs.Prelude.{◌≡◌, ℕ, ◌==◌, List, [], ◌∷◌, ◌++◌, None, Some, filter, length, map, replicate, if◌then◌else◌}
-use Rattle.std.specs.Ordering.{nat_cmp}
-use Rattle.rc_tuple.specs.RisingSet.{In, IsRising}
-use Rattle.rc_spec.specs.declared.lock.Mode.{Mode}
-use Rattle.rc_spec.specs.Fragments.{EdgeRow}
-use Rattle.rc_fragment.specs.Holder.{HeldStripe, Holding, LentStripe, held_of}
-use Rattle.rc_spec.specs.Locks.{StripeLock, Suffices}
-use Rattle.rc_machine.specs.Machine.{locks_of, stripes_held}
+use Rattle.rc_multi.specs.Imports.{nat_cmp, In, IsRising, Mode, EdgeRow, HeldStripe, Holding, LentStripe, held_of, StripeLock, Suffices, locks_of, stripes_held}
 use Rattle.rc_multi.specs.Group.{with_part}
 
 -- the rows now of a stripe among some that are held

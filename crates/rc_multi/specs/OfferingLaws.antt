@@ -1,30 +1,10 @@
 -- What the calls of a group's holder leave: each is met by the same call of the holder that has the group's stripes.
 use Rattle.std.specs.Prelude.{◌≡◌, ℕ, zero, suc, ◌⊎◌, get_or, ◌-◌, ◌<◌, ◌==◌, Bool, true, false, cond, List, [], ◌∷◌, ◌++◌, None, Some, length, map, replicate, if◌then◌else◌}
-use Rattle.std.specs.Ordering.{nat_cmp}
-use Rattle.std.specs.declared.cmp.Ordering.TheVariants.{Less}
+use Rattle.rc_multi.specs.Imports.{nat_cmp, Less, Within, In, IsRising, in_append, append_in_left, append_in_right, in_filter, filter_in, in_map, map_in, nat_order, not_below_itself, Pairs, Mode, Exclusive, Spec, EdgeRow, fragment_of, stripe_total, edge_table, FragmentRows, HasNoRowOf, AreOfRelation, AreOffered, CanLower, CanRaise, CanRaiseNew, HasRoomFor, HasTaken, HeldStripe, Holding, IsHeld, IsHeldExclusive, IsLent, IsPartlyAddedAt, LentStripe, changed_at, held_of, just_taken, with_changes, with_changes_at, with_now, with_room, with_room_at, held-change, held-room, ArePartlyAdded, CanAddTuple, HasTuple, StripeLock, Suffices, stripes_of, stripes_of_in, locks_of, stripes_held}
 use Rattle.std.proofs.Common.{refl, sym, ap, subst, ◌∙◌, inl, inr, arith, append_assoc, append-nil}
 use Rattle.std.proofs.lemmas.Bool.{eqb-true, eq-eqb, false≢true}
 use Rattle.std.proofs.lemmas.List.{length-replicate, map-append}
 use Rattle.std.proofs.lemmas.Simd.{map-map}
-use Rattle.rc_tuple.specs.ColSet.{Within}
-use Rattle.rc_tuple.specs.RisingSet.{In, IsRising}
-use Rattle.rc_tuple.specs.RisingSetLaws.{in_append, append_in_left, append_in_right, in_filter, filter_in, in_map, map_in, nat_order, not_below_itself}
-use Rattle.rc_tuple.specs.Tuple.{Pairs}
-use Rattle.rc_spec.specs.declared.lock.Mode.{Mode}
-use Rattle.rc_spec.specs.declared.lock.Mode.TheVariants.{Exclusive}
-use Rattle.rc_spec.specs.declared.spec.Spec.{Spec}
-use Rattle.rc_spec.specs.Fragments.{EdgeRow, fragment_of}
-use Rattle.rc_spec.specs.Stripes.{stripe_total}
-use Rattle.rc_fragment.specs.Fragment.{edge_table}
-use Rattle.rc_fragment.specs.FragmentRows.{FragmentRows}
-use Rattle.rc_fragment.specs.Fragment.{HasNoRowOf}
-use Rattle.rc_fragment.specs.Holder.{AreOfRelation, AreOffered, CanLower, CanRaise, CanRaiseNew, HasRoomFor, HasTaken, HeldStripe, Holding, IsHeld, IsHeldExclusive, IsLent, IsPartlyAddedAt, LentStripe, changed_at, held_of, just_taken, with_changes, with_changes_at, with_now, with_room, with_room_at}
-use Rattle.rc_fragment.specs.HoldingLaws.{held-change, held-room}
-use Rattle.rc_fragment.specs.Tuples.{ArePartlyAdded, CanAddTuple, HasTuple}
-use Rattle.rc_spec.specs.Locks.{StripeLock, Suffices}
-use Rattle.rc_plan.specs.StripeLocks.{stripes_of}
-use Rattle.rc_plan.specs.StripeLocksLaws.{stripes_of_in}
-use Rattle.rc_machine.specs.Machine.{locks_of, stripes_held}
 use Rattle.rc_multi.specs.CommitLaws.{one_held}
 use Rattle.rc_multi.specs.Group.{AreNowOf, HasRunOver, now_after, with_part}
 use Rattle.rc_multi.specs.GroupLaws.{suffices_exclusive}

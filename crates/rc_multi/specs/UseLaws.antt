@@ -1,19 +1,8 @@
 -- Whether the plan of some call locks the class of a stripe can be told.
 use Rattle.std.specs.Prelude.{◌≡◌, ℕ, ◌+◌, ◌<◌, ◌≤◌, ◌&&◌, ◌⊎◌, not, Bool, true, false, List}
-use Rattle.std.specs.List.{list_any}
+use Rattle.rc_multi.specs.Imports.{list_any, In, in_list_any, list_any_in, Call, Spec, class_at, band_start, Statement, Lock, SpecWithPlans, plan_at, IsOfClass, IsOfClassLocked}
 use Rattle.std.proofs.Common.{refl, sym, ap, subst, ◌∙◌, inl, inr, arith, ltb}
 use Rattle.std.proofs.lemmas.Bool.{false≢true, le-ltb, lt-ltb, ltb-false, ltb-true}
-use Rattle.rc_tuple.specs.RisingSet.{In}
-use Rattle.rc_tuple.specs.RelationLaws.{in_list_any, list_any_in}
-use Rattle.rc_spec.specs.declared.call.Call.{Call}
-use Rattle.rc_spec.specs.declared.spec.Spec.{Spec}
-use Rattle.rc_spec.specs.Placement.{class_at}
-use Rattle.rc_spec.specs.Stripes.{band_start}
-use Rattle.rc_plan.specs.declared.statement.Statement.{Statement}
-use Rattle.rc_plan.specs.declared.statement.Statement.TheVariants.{Lock}
-use Rattle.rc_plan.specs.Compiled.{SpecWithPlans, plan_at}
-use Rattle.rc_plan.specs.StripeLocks.{IsOfClass}
-use Rattle.rc_core.specs.Passes.{IsOfClassLocked}
 use Rattle.rc_multi.specs.declared.class_lock.ClassLock.{ClassLock}
 use Rattle.rc_multi.specs.GroupLocks.{class_lock, is_lock}
 use Rattle.rc_multi.specs.GroupLocksLaws.{lock_of}

@@ -1,35 +1,8 @@
 -- The plans of removes and inserts as they were made, and what their loops add.
 use Rattle.std.specs.Prelude.{◌≡◌, ℕ, ◌+◌, ◌-◌, ◌<◌, Bool, true, false, not, cond, List, [], ◌∷◌, ◌++◌, length, map, filter}
-use Rattle.std.specs.List.{flat_map, range_with_len}
-use Rattle.std.specs.Ordering.{nat_cmp}
+use Rattle.rc_mutate.proofs.Imports.{flat_map, range_with_len, nat_cmp, cases_eq, get_or-append_seam, append_assoc, append-nil, map-append, get_or_append_left, filter-append, In, put, gather, nat_order, gather_more, get_or_in, Within, is_within, union, range_with_len_more, in_range_below, union_left, union_within, Dep, Insert, Remove, Update, Op, Spec, IsSealed, all_columns, HasColumnAndNode, IsDepAmong, at_found, class_of, Statement, Apply, CheckDep, no_dep, dep_at, plan_at, pattern_columns, PlannedProbe, Exclusive, Routing, ChoosesRoutes, IsPlanned, classes_of_edges, written_classes, locks, locks_and_reads, left_after, ending, remove_plan, which_under, probe_statements, insert_plan, insert_probes, pattern_probe, dependency_probe, checked_deps, found_probe, update_dependency_probe, update_probes, update_which, update_plan, plan_for, chosen_routing, routing_chooses}
 use Rattle.std.proofs.Common.{inl, inr, refl, sym, ap, subst, ◌∙◌, arith, get_or}
-use Rattle.std.proofs.lemmas.Bool.{cases_eq}
-use Rattle.std.proofs.Math.Seq.{get_or-append_seam}
-use Rattle.std.proofs.lemmas.List.{append_assoc, append-nil, map-append, get_or_append_left}
-use Rattle.std.proofs.lemmas.List.Elements.{filter-append}
-use Rattle.rc_tuple.specs.RisingSet.{In, put, gather}
-use Rattle.rc_tuple.specs.RisingSetLaws.{nat_order, gather_more, get_or_in}
-use Rattle.rc_tuple.specs.ColSet.{Within, is_within, union}
-use Rattle.rc_tuple.specs.ColSetLaws.{range_with_len_more, in_range_below, union_left, union_within}
-use Rattle.rc_tuple.specs.declared.dep.Dep.{Dep}
-use Rattle.rc_spec.specs.declared.items.OpKind.TheVariants.{Insert, Remove, Update}
-use Rattle.rc_spec.specs.declared.items.Op.{Op}
-use Rattle.rc_spec.specs.declared.spec.Spec.{Spec}
-use Rattle.rc_spec.specs.Acceptance.{IsSealed}
-use Rattle.rc_spec.specs.Calls.{all_columns}
-use Rattle.rc_spec.specs.InRange.{HasColumnAndNode, IsDepAmong}
-use Rattle.rc_spec.specs.DecompositionLaws.{at_found}
-use Rattle.rc_spec.specs.Placement.{class_of}
-use Rattle.rc_plan.specs.declared.statement.Statement.{Statement}
-use Rattle.rc_plan.specs.declared.statement.Statement.TheVariants.{Apply, CheckDep}
 use Rattle.rc_plan.specs.declared.statement.Which.TheVariants as which
-use Rattle.rc_plan.specs.Evaluation.{no_dep, dep_at}
-use Rattle.rc_plan.specs.Compiled.{plan_at}
-use Rattle.rc_plan.specs.PlanRules.{pattern_columns}
-use Rattle.rc_query.specs.declared.probe.PlannedProbe.{PlannedProbe}
-use Rattle.rc_spec.specs.declared.lock.Mode.TheVariants.{Exclusive}
-use Rattle.rc_query.specs.Planned.{Routing, ChoosesRoutes, IsPlanned, classes_of_edges, written_classes, locks, locks_and_reads, left_after, ending, remove_plan, which_under, probe_statements, insert_plan, insert_probes, pattern_probe, dependency_probe, checked_deps, found_probe, update_dependency_probe, update_probes, update_which, update_plan, plan_for}
-use Rattle.rc_query.specs.PlannedLaws.{chosen_routing, routing_chooses}
 
 -- ---- numbers from 0
 

@@ -1,9 +1,6 @@
 -- The table as the judge has it.
 use Rattle.std.proofs.Common.{◌≡◌, ℕ, zero, suc, ◌<◌, List, [], ◌∷◌, length, map, get_or, sym, ap, ◌∙◌, subst, arith}
-use Rattle.std.specs.List.{AllByRecursion}
-use Rattle.std.proofs.lemmas.List.{get_or-map, length-map}
-use Rattle.rc_spec.specs.declared.refusal.ItemKind.TheVariants.{Node}
-use Rattle.rc_spec.specs.Acceptance.{Step, step, steps}
+use Rattle.rc_place.proofs.Imports.{AllByRecursion, get_or-map, length-map, Node, Step, step, steps}
 use Rattle.rc_place.specs.declared.judging.Step.{Step as Row}
 
 pub at_all : {A : Type 0} (P : A → Type 0) (xs : List A) (i : ℕ) (d : A) → AllByRecursion P xs → i < length xs → P (get_or xs i d)

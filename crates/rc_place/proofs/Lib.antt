@@ -1,3 +1,4 @@
 mod AdequacyLemmas
 mod JudgeLemmas
 mod PlacementLemmas
+mod Imports

@@ -1,33 +1,8 @@
 -- The example meets the premises of the law of accepted plans, and what the definitions compute at it.
 use Rattle.std.specs.Prelude.{◌≡◌, ℕ, ◌<◌, ◌≤◌, true, List, [], ◌∷◌, Some, nat_lt}
-use Rattle.std.specs.List.{list_all, range_with_len, AllByRecursion}
-use Rattle.std.specs.Ordering.{nat_cmp}
+use Rattle.rc_plan.proofs.Imports.{list_all, range_with_len, AllByRecursion, nat_cmp, ltb-true, In, IsRising, AreDistinct, list_all_in, each_in, Within, is_within, within_from_test, rising_range, in_range_below, Pairs, project, project_less, project_by, Follows, rising_of, Call, Rows, Inserted, Present, Conflict, Removed, Absent, Class, Edge, Node, Query, Shared, Exclusive, IsSealed, KeepsA1, KeepsA3, KeepsA5, KeepsA6, KeepsA7, IsAdequate, bound, edge_at, source_and_key, IsWalk, IsCircle, all_rows, AreBelow, IsSetBelow, IsDepAmong, IsEdgeAmong, IsPlaceAmong, IsOpAmong, IsInRange, class_at, class_of, op_at, KeepsP1, KeepsP2, KeepsP3, KeepsP4, KeepsP5, KeepsP6, IsPlaced, KeepsO, eval, rows_as_taken, graph, add_plan, drop_plan, successor_plan}
 use Rattle.std.proofs.Common.{inl, inr, refl, subst, ◌∙◌, arith, lit<, lit≤}
-use Rattle.std.proofs.lemmas.Bool.{ltb-true}
-use Rattle.rc_tuple.specs.RisingSet.{In, IsRising, AreDistinct}
-use Rattle.rc_tuple.specs.RisingSetLaws.{list_all_in, each_in}
-use Rattle.rc_tuple.specs.ColSet.{Within, is_within}
-use Rattle.rc_tuple.specs.ColSetLaws.{within_from_test, rising_range, in_range_below}
-use Rattle.rc_tuple.specs.Tuple.{Pairs, project}
-use Rattle.rc_tuple.specs.TupleLaws.{project_less, project_by}
-use Rattle.rc_tuple.specs.Relation.{Follows}
-use Rattle.rc_tuple.specs.RelationLaws.{rising_of}
-use Rattle.rc_spec.specs.declared.call.Call.{Call}
-use Rattle.rc_spec.specs.declared.call.Reply.TheVariants.{Rows, Inserted, Present, Conflict, Removed, Absent}
-use Rattle.rc_spec.specs.declared.items.Class.{Class}
-use Rattle.rc_spec.specs.declared.items.Edge.{Edge}
-use Rattle.rc_spec.specs.declared.items.Node.{Node}
-use Rattle.rc_spec.specs.declared.items.OpKind.TheVariants.{Query}
-use Rattle.rc_spec.specs.declared.lock.Mode.TheVariants.{Shared, Exclusive}
-use Rattle.rc_spec.specs.Acceptance.{IsSealed}
-use Rattle.rc_spec.specs.Adequacy.{KeepsA1, KeepsA3, KeepsA5, KeepsA6, KeepsA7, IsAdequate}
-use Rattle.rc_spec.specs.Decomposition.{bound, edge_at, source_and_key, IsWalk, IsCircle}
-use Rattle.rc_spec.specs.Fragments.{all_rows}
-use Rattle.rc_spec.specs.InRange.{AreBelow, IsSetBelow, IsDepAmong, IsEdgeAmong, IsPlaceAmong, IsOpAmong, IsInRange}
-use Rattle.rc_spec.specs.Placement.{class_at, class_of, op_at, KeepsP1, KeepsP2, KeepsP3, KeepsP4, KeepsP5, KeepsP6, IsPlaced, KeepsO}
 use Rattle.rc_spec.specs.Stripes.{mix}
-use Rattle.rc_plan.specs.Evaluation.{eval, rows_as_taken}
-use Rattle.rc_plan.specs.Example.{graph, add_plan, drop_plan, successor_plan}
 
 -- ---- tuples
 

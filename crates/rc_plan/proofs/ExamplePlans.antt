@@ -1,30 +1,8 @@
 -- The plans of the example keep K1 to K7, and serve calls.
 use Rattle.std.specs.Prelude.{◌≡◌, ℕ, zero, suc, ◌<◌, ◌≤◌, ◌^◌, List, [], ◌∷◌}
-use Rattle.std.proofs.Common.{inl, inr, refl, ap, arith, lit<, lit≤}
-use Rattle.rc_tuple.specs.RisingSet.{In}
-use Rattle.rc_tuple.specs.RisingSetLaws.{each_in}
-use Rattle.rc_tuple.specs.ColSet.{Within}
-use Rattle.rc_tuple.specs.ColSetLaws.{rising_range}
-use Rattle.rc_tuple.specs.Tuple.{tuple_cmp}
-use Rattle.rc_tuple.specs.Relation.{IsOver, IsRelation, SatisfiesOne, Satisfies}
-use Rattle.rc_tuple.specs.RelationLaws.{satisfies_from_test}
-use Rattle.rc_tuple.specs.declared.dep.Dep.{Dep}
-use Rattle.rc_spec.specs.declared.lock.Mode.{Mode}
-use Rattle.rc_spec.specs.Ranges.{IsBounded}
-use Rattle.std.proofs.lemmas.List.Elements.{All-nil}
-use Rattle.rc_spec.specs.declared.lock.Mode.TheVariants.{Shared, Exclusive}
-use Rattle.rc_spec.specs.Calls.{FitsAt}
-use Rattle.rc_spec.specs.Placement.{class_of}
+use Rattle.rc_plan.proofs.Imports.{inl, inr, refl, ap, arith, lit<, lit≤, In, each_in, Within, rising_range, tuple_cmp, IsOver, IsRelation, SatisfiesOne, Satisfies, satisfies_from_test, Dep, Mode, IsBounded, All-nil, Shared, Exclusive, FitsAt, class_of, Which, IsPlanOf, IsCompiled, plan_at, dep_at, Serves, IsKnown, AreKnown, KeepsPlanRules, plans_law, StripeLock, Suffices, graph, add_edge, drop_edge, successors, add_plan, drop_plan, successor_plan, plans}
 use Rattle.rc_spec.specs.Stripes.{mix}
-use Rattle.rc_plan.specs.declared.statement.Which.{Which}
 use Rattle.rc_plan.specs.declared.statement.Which.TheVariants as which
-use Rattle.rc_plan.specs.Compiled.{IsPlanOf, IsCompiled, plan_at}
-use Rattle.rc_plan.specs.Evaluation.{dep_at}
-use Rattle.rc_plan.specs.Laws.{Serves}
-use Rattle.rc_plan.specs.PlanRules.{IsKnown, AreKnown, KeepsPlanRules}
-use Rattle.rc_plan.specs.ServeLaws.{plans_law}
-use Rattle.rc_spec.specs.Locks.{StripeLock, Suffices}
-use Rattle.rc_plan.specs.Example.{graph, add_edge, drop_edge, successors, add_plan, drop_plan, successor_plan, plans}
 use Rattle.rc_plan.proofs.Example.{edge, some_edges, add, successors_of, within_by, numbered, follows_within, sealed}
 
 -- ---- numbers

@@ -1,21 +1,7 @@
 -- Statements between the first Locks of a plan and its other statements.
 use Rattle.std.specs.Prelude.{◌≡◌, ℕ, ◌+◌, ◌<◌, ◌≤◌, Bool, true, false, List, [], ◌∷◌, drop, get_or, length, take}
-use Rattle.std.specs.List.{list_all, list_any}
+use Rattle.rc_plan.proofs.Imports.{list_all, list_any, cases_lt, false≢true, or_parts, drop_more, get_or-take, length-drop, length-take, take-take, Within, Op, Spec, class_at, class_of, OpKind, Query, Insert, Remove, Update, AreLate, IsLate, IsLockedFirst, MayBeLate, is_given_lock, is_lock, is_lock_of, given_columns, pattern_columns, AccessPath, ReadMode, Statement, Lock, Probe, Read, CheckAbsent, CheckFound, CheckDep, Apply, Emit, Commit, Release}
 use Rattle.std.proofs.Common.{zero, suc, inl, inr, refl, sym, subst, ◌∙◌, arith}
-use Rattle.std.proofs.lemmas.Bool.{cases_lt, false≢true, or_parts}
-use Rattle.std.proofs.lemmas.List.{drop_more, get_or-take, length-drop, length-take, take-take}
-use Rattle.rc_tuple.specs.ColSet.{Within}
-use Rattle.rc_spec.specs.declared.items.Op.{Op}
-use Rattle.rc_spec.specs.declared.spec.Spec.{Spec}
-use Rattle.rc_spec.specs.Placement.{class_at, class_of}
-use Rattle.rc_spec.specs.declared.items.OpKind.{OpKind}
-use Rattle.rc_spec.specs.declared.items.OpKind.TheVariants.{Query, Insert, Remove, Update}
-use Rattle.rc_plan.specs.Access.{AreLate, IsLate, IsLockedFirst, MayBeLate, is_given_lock, is_lock, is_lock_of}
-use Rattle.rc_plan.specs.PlanRules.{given_columns, pattern_columns}
-use Rattle.rc_plan.specs.declared.access.AccessPath.{AccessPath}
-use Rattle.rc_plan.specs.declared.statement.ReadMode.{ReadMode}
-use Rattle.rc_plan.specs.declared.statement.Statement.{Statement}
-use Rattle.rc_plan.specs.declared.statement.Statement.TheVariants.{Lock, Probe, Read, CheckAbsent, CheckFound, CheckDep, Apply, Emit, Commit, Release}
 use Rattle.rc_plan.proofs.FirstLemmas.{all_pass, ends_at}
 
 -- the first of them is no Lock: no Read stands before it

@@ -6,3 +6,4 @@ mod RowLemmas
 mod TextLemmas
 mod FirstLemmas
 mod LateLemmas
+mod Imports

@@ -1,15 +1,7 @@
 -- Lists in which each number below a bound has its own, as the edges that are resolved.
 use Rattle.std.specs.Prelude.{◌≡◌, ℕ, ◌+◌, ◌<◌, ◌≤◌, List, Some, length, slice_set}
 use Rattle.std.proofs.Common.{inl, inr, get_or, sym, ap, subst, ◌∙◌, arith}
-use Rattle.std.proofs.lemmas.Bool.{cases_eq}
-use Rattle.std.proofs.lemmas.Grind.{get_or-set_at}
-use Rattle.std.proofs.lemmas.List.{get_or-set_other, length-set}
-use Rattle.std.proofs.lemmas.Option.{get_or_from_slice_get, slice_get-get_or}
-use Rattle.rc_tuple.specs.ColSet.{union}
-use Rattle.rc_spec.specs.declared.spec.Spec.{Spec}
-use Rattle.rc_spec.specs.Decomposition.{bound, edge_at, source_and_key}
-use Rattle.rc_plan.specs.Resolved.{AllBelow, IsResolvedEdge}
-use Rattle.rc_plan.specs.declared.resolved.ResolvedEdge.{ResolvedEdge}
+use Rattle.rc_plan.proofs.Imports.{cases_eq, get_or-set_at, get_or-set_other, length-set, get_or_from_slice_get, slice_get-get_or, union, Spec, bound, edge_at, source_and_key, AllBelow, IsResolvedEdge, ResolvedEdge}
 
 module _ {X : Type 0} (holds : ℕ → X → Type 0) (items : List X) where
   -- one more, put at its number

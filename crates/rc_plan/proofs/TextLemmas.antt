@@ -1,14 +1,6 @@
 -- Lemmas of printed texts.
 use Rattle.std.proofs.Common.{◌≡◌, ℕ, ◌+◌, ◌<◌, ◌≤◌, List, [], ◌∷◌, ◌++◌, Some, length, take, sym, ap, ◌∙◌, arith}
-use Rattle.std.specs.List.{slice_get, flat_map}
-use Rattle.std.proofs.lemmas.List.{take_more, append_assoc, append-nil}
-use Rattle.std.proofs.lemmas.Grind.{flat_map-append}
-use Rattle.std.proofs.lemmas.Option.{get_or_from_slice_get, slice_get_within}
-use Rattle.rc_tuple.specs.RisingSetLaws.{slice_get_in}
-use Rattle.rc_tuple.specs.ColSet.{Within}
-use Rattle.rc_tuple.specs.ColSetLaws.{in_range_bounds}
-use Rattle.rc_spec.specs.declared.spec.Spec.{Spec}
-use Rattle.rc_spec.specs.Calls.{all_columns}
+use Rattle.rc_plan.proofs.Imports.{slice_get, flat_map, take_more, append_assoc, append-nil, flat_map-append, get_or_from_slice_get, slice_get_within, slice_get_in, Within, in_range_bounds, Spec, all_columns}
 
 -- a column of a set of the specification's
 pub column_known : (spec : Spec) (cols : List ℕ) (place c : ℕ) → Within cols (all_columns spec) → slice_get cols place ≡ Some c → c < length spec.columns

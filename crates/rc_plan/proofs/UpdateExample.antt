@@ -1,24 +1,8 @@
 -- What the definitions compute of updates and of ranges, and what two plans that break their rules would do.
 use Rattle.std.specs.Prelude.{◌≡◌, ℕ, List, [], ◌∷◌, Some}
-use Rattle.std.proofs.Common.{refl}
-use Rattle.rc_tuple.specs.Tuple.{Pairs}
-use Rattle.rc_spec.specs.declared.call.Call.{Call}
-use Rattle.rc_spec.specs.declared.call.Reply.TheVariants.{Rows, Updated, Conflict, Absent}
-use Rattle.rc_spec.specs.declared.items.ColKind.TheVariants.{Num}
-use Rattle.rc_spec.specs.declared.items.EdgeKind.TheVariants.{Hash}
-use Rattle.rc_spec.specs.declared.items.Op.{Op}
-use Rattle.rc_spec.specs.declared.items.OpKind.TheVariants.{Query, Update}
-use Rattle.rc_spec.specs.declared.lock.Mode.TheVariants.{Shared, Exclusive}
-use Rattle.rc_spec.specs.declared.spec.Spec.{Spec}
-use Rattle.rc_spec.specs.Fragments.{all_rows, rows_on, fragment_of}
-use Rattle.rc_spec.specs.Plain.{plain}
+use Rattle.rc_plan.proofs.Imports.{refl, Pairs, Call, Rows, Updated, Conflict, Absent, Num, Hash, Op, Query, Update, Shared, Exclusive, Spec, all_rows, rows_on, fragment_of, plain, Lookup, Scan, Statement, Lock, Probe, Read, CheckFound, CheckDep, Apply, Emit, Commit, Release, eval, rows_as_taken, graph}
 use Rattle.rc_spec.specs.Stripes.{mix}
-use Rattle.rc_plan.specs.declared.statement.ReadMode.TheVariants.{Lookup, Scan}
-use Rattle.rc_plan.specs.declared.statement.Statement.{Statement}
-use Rattle.rc_plan.specs.declared.statement.Statement.TheVariants.{Lock, Probe, Read, CheckFound, CheckDep, Apply, Emit, Commit, Release}
 use Rattle.rc_plan.specs.declared.statement.Which.TheVariants as which
-use Rattle.rc_plan.specs.Evaluation.{eval, rows_as_taken}
-use Rattle.rc_plan.specs.Example.{graph}
 use Rattle.rc_plan.proofs.Example.{edge, some_edges}
 
 -- ---- the graph, with an update by source and target, and a query of the targets between bounds

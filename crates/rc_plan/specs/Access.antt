@@ -1,16 +1,6 @@
 -- How the calls of an operation are answered where its plan's statements need not be run in turn: from the rows of one edge, on the arguments' stripe. (Access paths: Selinger et al., SIGMOD 1979.)
 use Rattle.std.specs.Prelude.{◌≡◌, ℕ, ◌+◌, ◌<◌, ◌≤◌, ◌==◌, ◌↔◌, ◌++◌, Bool, IsTrue, true, false, List, [], Option, None, IfSome, drop, get_or, length, take}
-use Rattle.std.specs.List.{list_all, list_any}
-use Rattle.rc_tuple.specs.ColSet.{Within, is_within, minus}
-use Rattle.rc_tuple.specs.RisingSet.{In}
-use Rattle.rc_spec.specs.declared.items.Edge.{Edge}
-use Rattle.rc_spec.specs.declared.items.Op.{Op}
-use Rattle.rc_spec.specs.declared.items.OpKind.{OpKind}
-use Rattle.rc_spec.specs.declared.items.OpKind.TheVariants.{Query, Insert, Remove, Update}
-use Rattle.rc_spec.specs.declared.spec.Spec.{Spec}
-use Rattle.rc_spec.specs.Calls.{all_columns}
-use Rattle.rc_spec.specs.Decomposition.{bound, edge_at, source_and_key}
-use Rattle.rc_spec.specs.Placement.{class_at, class_of, op_at}
+use Rattle.rc_plan.specs.Imports.{list_all, list_any, Within, is_within, minus, In, Edge, Op, OpKind, Query, Insert, Remove, Update, Spec, all_columns, bound, edge_at, source_and_key, class_at, class_of, op_at}
 use Rattle.rc_plan.specs.declared.access.AccessPath.{AccessPath}
 use Rattle.rc_plan.specs.declared.edge_classes.EdgeClasses.{EdgeClasses}
 use Rattle.rc_plan.specs.declared.resolved.ResolvedEdge.{ResolvedEdge}

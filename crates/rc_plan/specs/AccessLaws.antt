@@ -1,32 +1,9 @@
 -- Laws of plans whose Locks come first, and of the rows of an edge that lie on the stripe of a tuple.
 use Rattle.std.specs.Prelude.{◌≡◌, ℕ, zero, suc, ◌<◌, Bool, true, false, ◌||◌, List, [], ◌∷◌, cond, drop, get_or, is_some, length, take, ◌≤◌}
-use Rattle.std.specs.List.{list_all, list_any}
-use Rattle.std.specs.Ordering.{nat_cmp}
+use Rattle.rc_plan.specs.Imports.{list_all, list_any, nat_cmp, In, IsRising, Within, rising_range, IsRelation, get_or_in, list_all_in, Pairs, cols_of, matches, project, Agree, same_from_test, Call, Op, OpKind, Query, Insert, Remove, Update, Mode, Spec, IsAdequate, all_columns, target_within, target_columns, EdgeRow, all_rows, fragment_of, fragments_in, in_fragments, in_tuples_of_edge, tuples_of_edge_in, IsInRange, class_at, class_of, IsPlaced, physical_stripe}
 use Rattle.std.proofs.Common.{arith, inl, refl, sym, subst, ◌∙◌}
 use Rattle.std.proofs.lemmas.List.{get_or-take, get_or_default, length-take-le, take-take}
 use Rattle.std.proofs.lemmas.Bool.{false≢true}
-use Rattle.rc_tuple.specs.RisingSet.{In, IsRising}
-use Rattle.rc_tuple.specs.ColSet.{Within}
-use Rattle.rc_tuple.specs.ColSetLaws.{rising_range}
-use Rattle.rc_tuple.specs.Relation.{IsRelation}
-use Rattle.rc_tuple.specs.RisingSetLaws.{get_or_in, list_all_in}
-use Rattle.rc_tuple.specs.Tuple.{Pairs, cols_of, matches, project}
-use Rattle.rc_tuple.specs.TupleLaws.{Agree, same_from_test}
-use Rattle.rc_spec.specs.declared.call.Call.{Call}
-use Rattle.rc_spec.specs.declared.items.Op.{Op}
-use Rattle.rc_spec.specs.declared.items.OpKind.{OpKind}
-use Rattle.rc_spec.specs.declared.items.OpKind.TheVariants.{Query, Insert, Remove, Update}
-use Rattle.rc_spec.specs.declared.lock.Mode.{Mode}
-use Rattle.rc_spec.specs.declared.spec.Spec.{Spec}
-use Rattle.rc_spec.specs.Adequacy.{IsAdequate}
-use Rattle.rc_spec.specs.Calls.{all_columns}
-use Rattle.rc_spec.specs.ContentsLaws.{target_within}
-use Rattle.rc_spec.specs.Decomposition.{target_columns}
-use Rattle.rc_spec.specs.Fragments.{EdgeRow, all_rows, fragment_of}
-use Rattle.rc_spec.specs.FragmentsLaws.{fragments_in, in_fragments, in_tuples_of_edge, tuples_of_edge_in}
-use Rattle.rc_spec.specs.InRange.{IsInRange}
-use Rattle.rc_spec.specs.Placement.{class_at, class_of, IsPlaced}
-use Rattle.rc_spec.specs.Stripes.{physical_stripe}
 use Rattle.rc_plan.specs.Access.{AreLate, IsLate, MayBeLate, is_given_lock, is_lock}
 use Rattle.rc_plan.specs.declared.statement.ReadMode.{ReadMode}
 use Rattle.rc_plan.specs.declared.statement.Statement.{Statement}

@@ -1,8 +1,6 @@
 -- Accepted specifications with a plan for each operation.
 use Rattle.std.specs.Prelude.{◌≡◌, ℕ, ◌<◌, List, [], length, get_or}
-use Rattle.rc_spec.specs.declared.spec.Spec.{Spec}
-use Rattle.rc_spec.specs.Acceptance.{IsSealed}
-use Rattle.rc_spec.specs.Placement.{op_at}
+use Rattle.rc_plan.specs.Imports.{Spec, IsSealed, op_at}
 use Rattle.rc_plan.specs.declared.statement.Statement.{Statement}
 use Rattle.rc_plan.specs.PlanRules.{AreKnown, KeepsPlanRules}
 

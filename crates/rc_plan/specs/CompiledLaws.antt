@@ -2,23 +2,12 @@
 use Rattle.std.specs.Prelude.{◌≡◌, ◌<◌, List, length}
 use Rattle.std.proofs.Common.{sym, subst}
 use Rattle.std.proofs.lemmas.Option.{slice_get_within}
-use Rattle.rc_tuple.specs.Relation.{IsRelation, Satisfies}
-use Rattle.rc_tuple.specs.RisingSet.{In}
-use Rattle.rc_tuple.specs.RisingSetLaws.{in_map, each_in}
-use Rattle.rc_tuple.specs.Tuple.{Pairs}
-use Rattle.rc_spec.specs.declared.call.Call.{Call}
-use Rattle.rc_spec.specs.declared.spec.Spec.{Spec}
-use Rattle.rc_spec.specs.Acceptance.{IsSealed}
-use Rattle.rc_spec.specs.Calls.{Fits, all_columns}
-use Rattle.rc_spec.specs.CallsLaws.{fits_at_op}
-use Rattle.rc_spec.specs.Fragments.{rows_on}
-use Rattle.rc_spec.specs.Placement.{op_at}
+use Rattle.rc_plan.specs.Imports.{IsRelation, Satisfies, In, in_map, each_in, Pairs, Call, Spec, IsSealed, Fits, all_columns, fits_at_op, rows_on, op_at, StripeLock}
 use Rattle.rc_plan.specs.declared.statement.Statement.{Statement}
 use Rattle.rc_plan.specs.Compiled.{IsPlanOf, SpecWithPlans, IsCompiled, plan_at}
 use Rattle.rc_plan.specs.Evaluation.{eval}
 use Rattle.rc_plan.specs.Laws.{CompiledPlansServe, CompiledPlansServeInTurn, Serves}
 use Rattle.rc_plan.specs.ServeLaws.{plans_law, plans_in_turn_law}
-use Rattle.rc_spec.specs.Locks.{StripeLock}
 use Rattle.rc_plan.specs.StripeLocks.{AreHeld, stripes_of}
 use Rattle.rc_plan.specs.Turns.{HasAcceptedPlan, with_plan, with_plans}
 

@@ -1,19 +1,8 @@
 -- Laws of the dependencies that a relation with one more tuple breaks.
 use Rattle.std.specs.Prelude.{◌≡◌, ℕ, zero, suc, ◌+◌, ◌-◌, ◌<◌, ◌≤◌, Bool, true, false, List, [], ◌∷◌, ◌⊎◌, ◌||◌, None, Some, not, length, get_or, if◌then◌else◌}
-use Rattle.std.specs.List.{list_any}
+use Rattle.rc_plan.specs.Imports.{list_any, In, put, get_or_in, Within, is_within, within_from_test, test_from_within, Pairs, project, tuple_cmp, agree_on, project_less, SatisfiesOne, Satisfies, breaks, breaks_with, breaks_pair, in_list_any, list_any_in, agree_from_test, test_from_agree, agree_on-swap, breaks-put, test_from_satisfies, Dep, Spec, first_broken_dependency}
 use Rattle.std.proofs.Common.{inl, inr, refl, sym, ap, subst, ◌∙◌, arith}
 use Rattle.std.proofs.lemmas.Bool.{false≢true, cases_Bool, and_parts, and_from, not_from_false, not-true, or_right, false_from_ne_true}
-use Rattle.rc_tuple.specs.RisingSet.{In, put}
-use Rattle.rc_tuple.specs.RisingSetLaws.{get_or_in}
-use Rattle.rc_tuple.specs.ColSet.{Within, is_within}
-use Rattle.rc_tuple.specs.ColSetLaws.{within_from_test, test_from_within}
-use Rattle.rc_tuple.specs.Tuple.{Pairs, project, tuple_cmp, agree_on}
-use Rattle.rc_tuple.specs.TupleLaws.{project_less}
-use Rattle.rc_tuple.specs.Relation.{SatisfiesOne, Satisfies, breaks, breaks_with, breaks_pair}
-use Rattle.rc_tuple.specs.RelationLaws.{in_list_any, list_any_in, agree_from_test, test_from_agree, agree_on-swap, breaks-put, test_from_satisfies}
-use Rattle.rc_tuple.specs.declared.dep.Dep.{Dep}
-use Rattle.rc_spec.specs.declared.spec.Spec.{Spec}
-use Rattle.rc_spec.specs.Plain.{first_broken_dependency}
 use Rattle.rc_plan.specs.Evaluation.{no_dep, dep_at}
 
 pub list_any_none : {A : Type 0} (p : A → Bool) (xs : List A) → ((x : A) → In x xs → p x ≡ true → ⊥) → list_any p xs ≡ false

@@ -1,10 +1,6 @@
 -- The lock classes of a specification's edges.
 use Rattle.std.specs.Prelude.{◌≡◌, ℕ, ◌==◌, ◌≤◌, ◌++◌, List, [], ◌∷◌, cond, filter, length, take}
-use Rattle.std.specs.List.{fold}
-use Rattle.rc_tuple.specs.ColSet.{has}
-use Rattle.rc_spec.specs.declared.spec.Spec.{Spec}
-use Rattle.rc_spec.specs.Fragments.{edge_numbers}
-use Rattle.rc_spec.specs.Placement.{class_of}
+use Rattle.rc_plan.specs.Imports.{fold, has, Spec, edge_numbers, class_of}
 use Rattle.rc_plan.specs.Resolved.{AllBelow}
 use Rattle.rc_plan.specs.declared.edge_classes.EdgeClasses.{EdgeClasses}
 

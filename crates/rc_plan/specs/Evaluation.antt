@@ -1,30 +1,10 @@
 -- What a plan does on a list of rows: its reply, the stripes that it names, and the rows after it. (PLDI 2011 and PLDI 2012, evaluation of query plans.)
 use Rattle.std.specs.Prelude.{ℕ, ◌-◌, Bool, true, false, ◌&&◌, List, [], ◌∷◌, ◌++◌, Option, None, Some, map, filter, not, is_some, if◌then◌else◌, get_or}
-use Rattle.std.specs.List.{list_any}
-use Rattle.rc_tuple.specs.RisingSet.{gather}
-use Rattle.rc_tuple.specs.Tuple.{Pairs, project, agree_on}
-use Rattle.rc_tuple.specs.declared.dep.Dep.{Dep}
-use Rattle.rc_spec.specs.declared.call.Call.{Call}
-use Rattle.rc_spec.specs.declared.call.Reply.{Reply}
-use Rattle.rc_spec.specs.declared.call.Reply.TheVariants.{Rows, Many, Inserted, Present, Conflict, Removed, Updated, Absent}
-use Rattle.rc_spec.specs.declared.items.Op.{Op}
-use Rattle.rc_spec.specs.declared.items.OpKind.{OpKind}
-use Rattle.rc_spec.specs.declared.items.OpKind.TheVariants.{Query, Insert, Remove, Update}
-use Rattle.rc_spec.specs.declared.lock.Mode.{Mode}
-use Rattle.rc_spec.specs.declared.range.Range.{Range}
-use Rattle.rc_spec.specs.declared.spec.Spec.{Spec}
-use Rattle.rc_spec.specs.Contents.{join}
-use Rattle.rc_spec.specs.Fragments.{EdgeRow, tuples_of_edge, all_rows}
-use Rattle.rc_spec.specs.Placement.{op_at}
-use Rattle.rc_spec.specs.Plain.{at_most, rows_of}
-use Rattle.rc_spec.specs.Ranges.{in_ranges}
-use Rattle.rc_spec.specs.Stripes.{physical_stripe}
+use Rattle.rc_plan.specs.Imports.{list_any, gather, Pairs, project, agree_on, Dep, Call, Reply, Rows, Many, Inserted, Present, Conflict, Removed, Updated, Absent, Op, OpKind, Query, Insert, Remove, Update, Mode, Range, Spec, join, EdgeRow, tuples_of_edge, all_rows, op_at, at_most, rows_of, in_ranges, physical_stripe, with_rows, without_rows, StripeLock}
 use Rattle.rc_plan.specs.declared.statement.Statement.{Statement}
 use Rattle.rc_plan.specs.declared.statement.Statement.TheVariants.{Lock, Probe, Read, CheckAbsent, CheckFound, CheckDep, Apply, Emit, Commit, Release}
 use Rattle.rc_plan.specs.declared.statement.Which.{Which}
 use Rattle.rc_plan.specs.declared.statement.Which.TheVariants as which
-use Rattle.rc_spec.specs.CountedRows.{with_rows, without_rows}
-use Rattle.rc_spec.specs.Locks.{StripeLock}
 use Rattle.rc_plan.specs.StripeLocks.{stripe_lock_cmp, band}
 
 -- where a run stands

@@ -1,11 +1,6 @@
 -- A small specification with a plan of each kind: edges src -> dst, each with one weight, where a weight has one src. It shows that the premises of the laws can be met.
 use Rattle.std.specs.Prelude.{List, [], ◌∷◌}
-use Rattle.rc_spec.specs.declared.items.ColKind.TheVariants.{Num}
-use Rattle.rc_spec.specs.declared.items.EdgeKind.TheVariants.{Hash, Ordered}
-use Rattle.rc_spec.specs.declared.items.Op.{Op}
-use Rattle.rc_spec.specs.declared.items.OpKind.TheVariants.{Query, Insert, Remove}
-use Rattle.rc_spec.specs.declared.lock.Mode.TheVariants.{Shared, Exclusive}
-use Rattle.rc_spec.specs.declared.spec.Spec.{Spec}
+use Rattle.rc_plan.specs.Imports.{Num, Hash, Ordered, Op, Query, Insert, Remove, Shared, Exclusive, Spec}
 use Rattle.rc_plan.specs.declared.statement.ReadMode.TheVariants.{Lookup, Scan}
 use Rattle.rc_plan.specs.declared.statement.Statement.{Statement}
 use Rattle.rc_plan.specs.declared.statement.Statement.TheVariants.{Lock, Probe, Read, CheckAbsent, CheckDep, Apply, Emit, Commit, Release}

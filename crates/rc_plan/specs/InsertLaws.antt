@@ -1,46 +1,18 @@
 -- The law of accepted plans, for inserts.
 use Rattle.std.specs.Prelude.{◌≡◌, ℕ, ◌-◌, ◌<◌, ◌≤◌, Bool, true, false, List, [], ◌∷◌, ◌++◌, None, Some, cond, not, length}
-use Rattle.std.specs.Ordering.{nat_cmp}
+use Rattle.rc_plan.specs.Imports.{nat_cmp, In, IsRising, put, gather, in_gather, gather_in, get_or_in, nat_order, Within, Pairs, cols_of, project, pair_cmp, tuple_cmp, tuple_eq, agree_on, project-project, project_less, IsRelation, Satisfies, in_list_any, list_any_in, agree_from_test, test_from_agree, Reply, Inserted, Present, Conflict, Op, Insert, Mode, Exclusive, Spec, IsAdequate, all_columns, join, EdgeRow, all_rows, tuples_of_edge, rows_on, fragment_of, IsSeen, IsInRange, class_of, IsPlaced, Outcome, plain_by, insert-present, insert-absent, physical_stripe, row_in, with_rows, AllHeld, with_rows-fragments, without_rows-with, fragment_of-insert, StripeLock, Call}
 use Rattle.std.proofs.Common.{inl, inr, refl, sym, ap, subst, ◌∙◌, arith}
 use Rattle.std.proofs.lemmas.Bool.{true≢false, cases_Bool, not_from_false, not-true}
-use Rattle.rc_tuple.specs.RisingSet.{In, IsRising, put, gather}
-use Rattle.rc_tuple.specs.RisingSetLaws.{in_gather, gather_in, get_or_in, nat_order}
-use Rattle.rc_tuple.specs.ColSet.{Within}
-use Rattle.rc_tuple.specs.Tuple.{Pairs, cols_of, project, pair_cmp, tuple_cmp, tuple_eq, agree_on}
-use Rattle.rc_tuple.specs.TupleLaws.{project-project, project_less}
-use Rattle.rc_tuple.specs.Relation.{IsRelation, Satisfies}
-use Rattle.rc_tuple.specs.RelationLaws.{in_list_any, list_any_in, agree_from_test, test_from_agree}
-use Rattle.rc_spec.specs.declared.call.Reply.{Reply}
-use Rattle.rc_spec.specs.declared.call.Reply.TheVariants.{Inserted, Present, Conflict}
-use Rattle.rc_spec.specs.declared.items.Op.{Op}
-use Rattle.rc_spec.specs.declared.items.OpKind.TheVariants.{Insert}
-use Rattle.rc_spec.specs.declared.lock.Mode.{Mode}
-use Rattle.rc_spec.specs.declared.lock.Mode.TheVariants.{Exclusive}
-use Rattle.rc_spec.specs.declared.spec.Spec.{Spec}
-use Rattle.rc_spec.specs.Adequacy.{IsAdequate}
-use Rattle.rc_spec.specs.Calls.{all_columns}
-use Rattle.rc_spec.specs.Contents.{join}
-use Rattle.rc_spec.specs.Fragments.{EdgeRow, all_rows, tuples_of_edge, rows_on, fragment_of}
-use Rattle.rc_spec.specs.HeathLaws.{IsSeen}
-use Rattle.rc_spec.specs.InRange.{IsInRange}
-use Rattle.rc_spec.specs.Placement.{class_of, IsPlaced}
-use Rattle.rc_spec.specs.Plain.{Outcome, plain_by}
-use Rattle.rc_spec.specs.PlainLaws.{insert-present, insert-absent}
-use Rattle.rc_spec.specs.Stripes.{physical_stripe}
 use Rattle.rc_plan.specs.declared.statement.ReadMode.{ReadMode}
 use Rattle.rc_plan.specs.declared.statement.Statement.{Statement}
 use Rattle.rc_plan.specs.declared.statement.Statement.TheVariants.{Lock, Probe, Read, CheckAbsent, CheckFound, CheckDep, Apply, Emit, Commit, Release}
 use Rattle.rc_plan.specs.declared.statement.Which.{Which}
 use Rattle.rc_plan.specs.ConflictLaws.{list_any_none, within_or_not, IsUnbroken, no_conflict, conflict_with, unbroken_within}
-use Rattle.rc_spec.specs.CountedRows.{row_in, with_rows}
-use Rattle.rc_spec.specs.CountedRowsLaws.{AllHeld, with_rows-fragments, without_rows-with, fragment_of-insert}
 use Rattle.rc_plan.specs.Evaluation.{RunState, dep_at, some_left, some_differs, stripes_locked, named_by, run, rows_as_taken}
 use Rattle.rc_plan.specs.PlanRules.{Phase, Progress, after, AreKnown, KeepsAll, KeepsFrom}
 use Rattle.rc_plan.specs.RunLaws.{EndsAs, run-replied, stripes_grow, lock_keeps, read_keeps, read_same}
-use Rattle.rc_spec.specs.Locks.{StripeLock}
 use Rattle.rc_plan.specs.StripeLocks.{stripe_lock_cmp, stripes_of, AreIn}
 use Rattle.rc_plan.specs.StripeLocksLaws.{AreIn-more, not_named}
-use Rattle.rc_spec.specs.declared.call.Call.{Call}
 use Rattle.rc_plan.specs.Search.{searching, IsSearching}
 use Rattle.rc_plan.specs.ProbeLaws.{checked_before, one_left, none_left, more_named, tuple_named, probe_searching, IsProbing, t_rises, found_one, one_found, up_at, seen_at, tuple_is_named}
 use Rattle.rc_plan.specs.NamedStripes.{HasNamed}

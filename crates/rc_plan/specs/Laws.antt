@@ -1,21 +1,6 @@
 -- The law of accepted plans, and the law of their rules, each named by the contract of a function.
 use Rattle.std.specs.Prelude.{◌≡◌, ℕ, ◌<◌, ◌↔◌, List, Some, take}
-use Rattle.std.specs.List.{slice_get, AllByRecursion}
-use Rattle.rc_tuple.specs.Relation.{IsRelation, Satisfies}
-use Rattle.rc_tuple.specs.RisingSet.{In}
-use Rattle.rc_tuple.specs.Tuple.{Pairs}
-use Rattle.rc_spec.specs.declared.call.Call.{Call}
-use Rattle.rc_spec.specs.declared.items.Op.{Op}
-use Rattle.rc_spec.specs.declared.lock.Mode.{Mode}
-use Rattle.rc_spec.specs.declared.lock.Mode.TheVariants.{Exclusive}
-use Rattle.rc_spec.specs.declared.spec.Spec.{Spec}
-use Rattle.rc_spec.specs.Adequacy.{IsAdequate}
-use Rattle.rc_spec.specs.Calls.{all_columns, FitsAt, Fits}
-use Rattle.rc_spec.specs.First.{EachHolds}
-use Rattle.rc_spec.specs.Fragments.{EdgeRow, tuples_of_edge, row_stripe, on_stripes, rows_on, fragment_of}
-use Rattle.rc_spec.specs.InRange.{IsInRange, HasColumnAndNode}
-use Rattle.rc_spec.specs.Placement.{IsPlaced, KeepsO}
-use Rattle.rc_spec.specs.Plain.{plain}
+use Rattle.rc_plan.specs.Imports.{slice_get, AllByRecursion, IsRelation, Satisfies, In, Pairs, Call, Op, Mode, Exclusive, Spec, IsAdequate, all_columns, FitsAt, Fits, EachHolds, EdgeRow, tuples_of_edge, row_stripe, on_stripes, rows_on, fragment_of, IsInRange, HasColumnAndNode, IsPlaced, KeepsO, plain, StripeLock}
 use Rattle.rc_plan.specs.declared.refusal.PlanRefusal.{PlanRefusal}
 use Rattle.rc_plan.specs.declared.statement.ReadMode.{ReadMode}
 use Rattle.rc_plan.specs.declared.statement.Statement.{Statement}
@@ -25,7 +10,6 @@ use Rattle.rc_plan.specs.Compiled.{SpecWithPlans, IsCompiled, plan_at}
 use Rattle.rc_plan.specs.Evaluation.{stripes_locked, begun, run, eval, touched, rows_as_taken}
 use Rattle.rc_plan.specs.NamedStripes.{IsNamedBy}
 use Rattle.rc_plan.specs.PlanRules.{AreKnown, KeepsPlanRules, IsKeptInPlan, plan_checks, IsFirstBrokenPlanRule}
-use Rattle.rc_spec.specs.Locks.{StripeLock}
 use Rattle.rc_plan.specs.StripeLocks.{stripes_of, AreHeld}
 use Rattle.rc_plan.specs.Turns.{AllAreHeld, CallWithPlan, HasAcceptedPlan, eval_replies, plain_replies, relation_after, rows_after, with_plans}
 

@@ -27,3 +27,4 @@ pub mod StripeLocks
 pub mod StripeLocksLaws
 pub mod Turns
 pub mod UpdateLaws
+pub mod Imports

@@ -1,23 +1,10 @@
 -- Laws of the order of locks in accepted plans: stripes are named rising, and after a Read none is named on which a row of its edge falls. So a machine that reads while it locks finds what evaluation finds in all rows taken.
 use Rattle.std.specs.Prelude.{◌≡◌, ℕ, zero, suc, ◌+◌, ◌<◌, ◌≤◌, ◌==◌, Bool, true, false, List, [], ◌∷◌, ◌++◌, Some, cond, filter, map, length, is_some, take, drop}
-use Rattle.std.specs.List.{slice_get}
+use Rattle.rc_plan.specs.Imports.{slice_get, In, gather, in_gather, in_map, in_append, has_in, slice_get_in, has, Pairs, Call, Op, Mode, Spec, EdgeRow, tuples_of_edge, row_stripe, on_stripes, class_at, class_of, IsPlaced, class_of_known, band_start, physical_stripe, band_before, StripeLock}
 use Rattle.std.proofs.Common.{inl, inr, refl, sym, ap, subst, ◌∙◌, arith}
 use Rattle.std.proofs.lemmas.Bool.{false≢true, eqb-true}
 use Rattle.std.proofs.lemmas.List.{drop_more}
 use Rattle.std.proofs.lemmas.Option.{get_or_from_slice_get, slice_get_within}
-use Rattle.rc_tuple.specs.RisingSet.{In, gather}
-use Rattle.rc_tuple.specs.RisingSetLaws.{in_gather, in_map, in_append, has_in, slice_get_in}
-use Rattle.rc_tuple.specs.ColSet.{has}
-use Rattle.rc_tuple.specs.Tuple.{Pairs}
-use Rattle.rc_spec.specs.declared.call.Call.{Call}
-use Rattle.rc_spec.specs.declared.items.Op.{Op}
-use Rattle.rc_spec.specs.declared.lock.Mode.{Mode}
-use Rattle.rc_spec.specs.declared.spec.Spec.{Spec}
-use Rattle.rc_spec.specs.Fragments.{EdgeRow, tuples_of_edge, row_stripe, on_stripes}
-use Rattle.rc_spec.specs.Placement.{class_at, class_of, IsPlaced}
-use Rattle.rc_spec.specs.PlacementLaws.{class_of_known}
-use Rattle.rc_spec.specs.Stripes.{band_start, physical_stripe}
-use Rattle.rc_spec.specs.StripesLaws.{band_before}
 use Rattle.rc_plan.specs.declared.statement.Statement.{Statement}
 use Rattle.rc_plan.specs.declared.statement.Statement.TheVariants.{Lock, Probe, Read, CheckAbsent, CheckFound, CheckDep, Apply, Emit, Commit, Release}
 use Rattle.rc_plan.specs.declared.statement.Which.{Which}
@@ -27,7 +14,6 @@ use Rattle.rc_plan.specs.Laws.{LocksRise, ReadsAreEarly}
 use Rattle.rc_plan.specs.PlanRules.{Progress, at_start, after, IsKnown, AreKnown, IsLocked, KeepsAll, KeepsFrom}
 use Rattle.rc_plan.specs.PlanRulesLaws.{progress_from, keeps_drop}
 use Rattle.rc_plan.specs.RunLaws.{named-apply, named-emit, named-keep_least, named-check_absent, named-check_dep, run-split}
-use Rattle.rc_spec.specs.Locks.{StripeLock}
 use Rattle.rc_plan.specs.StripeLocks.{stripe_lock_cmp, stripes_of, IsOfClass}
 use Rattle.rc_plan.specs.StripeLocksLaws.{stripe_lock_order, in_stripes_of, stripes_of_in, IsOfClass-physical_stripe, band_of_class, of_one_class}
 use Rattle.rc_plan.specs.NamedStripes.{AreOfLocked}

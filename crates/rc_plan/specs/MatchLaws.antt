@@ -1,21 +1,8 @@
 -- Laws of what a search finds: where the visited columns hold the pattern, its bindings are the projections of the matching tuples.
 use Rattle.std.specs.Prelude.{◌≡◌, ℕ, true, List, [], ◌∷◌, filter, map}
-use Rattle.std.specs.Ordering.{nat_cmp}
+use Rattle.rc_plan.specs.Imports.{nat_cmp, In, IsRising, same_rising, same_gather, rising_filter, in_filter, filter_in, in_map, map_in, number_lists_order, has, Within, Pairs, cols_of, value, project, pick, pair_cmp, tuple_cmp, merge, matches, Agree, pair_order, tuple_order, in_project, project_in, in_merge, merge_right, rising_merge, one_pair, same_from_test, test_from_same, value-project, project_all, IsRelation, rising_of, IsSeen, row_cmp, at_most, range_column, in_ranges, is_asked, in_ranges-project, Range}
 use Rattle.std.proofs.Common.{inl, inr, refl, sym, ap, subst, ◌∙◌}
 use Rattle.std.proofs.lemmas.Bool.{and_from, and_parts}
-use Rattle.rc_tuple.specs.RisingSet.{In, IsRising}
-use Rattle.rc_tuple.specs.RisingSetLaws.{same_rising, same_gather, rising_filter, in_filter, filter_in, in_map, map_in, number_lists_order}
-use Rattle.rc_tuple.specs.ColSet.{has, Within}
-use Rattle.rc_tuple.specs.Tuple.{Pairs, cols_of, value, project, pick, pair_cmp, tuple_cmp, merge, matches}
-use Rattle.rc_tuple.specs.TupleLaws.{Agree, pair_order, tuple_order, in_project, project_in, in_merge, merge_right, rising_merge, one_pair, same_from_test, test_from_same}
-use Rattle.rc_tuple.specs.MergeLaws.{value-project, project_all}
-use Rattle.rc_tuple.specs.Relation.{IsRelation}
-use Rattle.rc_tuple.specs.RelationLaws.{rising_of}
-use Rattle.rc_spec.specs.HeathLaws.{IsSeen}
-use Rattle.rc_spec.specs.Plain.{row_cmp, at_most}
-use Rattle.rc_spec.specs.Ranges.{range_column, in_ranges, is_asked}
-use Rattle.rc_spec.specs.RangesLaws.{in_ranges-project}
-use Rattle.rc_spec.specs.declared.range.Range.{Range}
 use Rattle.rc_plan.specs.Evaluation.{answer}
 
 pub pick-project : (xs outs : List ℕ) (t : Pairs) → Within outs xs → pick outs (project xs t) ≡ pick outs t

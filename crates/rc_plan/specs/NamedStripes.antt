@@ -1,18 +1,11 @@
 -- Which stripes plans lock, and which the Locks of a run have named. (PLDI 2012, well-locked query plans.)
 use Rattle.std.specs.Prelude.{◌≡◌, ℕ, List}
-use Rattle.rc_tuple.specs.ColSet.{Within}
-use Rattle.rc_tuple.specs.RisingSet.{In}
-use Rattle.rc_tuple.specs.Tuple.{Pairs, cols_of}
-use Rattle.rc_spec.specs.declared.lock.Mode.{Mode}
-use Rattle.rc_spec.specs.declared.spec.Spec.{Spec}
-use Rattle.rc_spec.specs.Placement.{class_at}
-use Rattle.rc_spec.specs.Stripes.{physical_stripe}
+use Rattle.rc_plan.specs.Imports.{Within, In, Pairs, cols_of, Mode, Spec, class_at, physical_stripe, StripeLock}
 use Rattle.rc_plan.specs.declared.statement.Statement.{Statement}
 use Rattle.rc_plan.specs.declared.statement.Statement.TheVariants.{Lock}
 use Rattle.rc_plan.specs.declared.statement.Which.{Which}
 use Rattle.rc_plan.specs.declared.statement.Which.TheVariants as which
 use Rattle.rc_plan.specs.PlanRules.{IsLocked, Progress}
-use Rattle.rc_spec.specs.Locks.{StripeLock}
 use Rattle.rc_plan.specs.StripeLocks.{IsOfClass, stripes_of}
 
 -- ---- by statements

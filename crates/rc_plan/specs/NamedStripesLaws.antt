@@ -1,26 +1,8 @@
 -- Laws of the stripes that a plan names, whatever the rows: they are its Locks', and the arguments' where these choose them.
 use Rattle.std.specs.Prelude.{◌≡◌, ℕ, Bool, true, false, List, [], ◌∷◌, ◌++◌, ◌⊎◌, Option, None, Some, cond, is_some}
-use Rattle.std.specs.Ordering.{nat_cmp}
+use Rattle.rc_plan.specs.Imports.{nat_cmp, Within, value_in, In, IsRising, in_gather, in_append, in_map, map_in, Pairs, cols_of, value, agrees, merge, agree_from, in_merge, merge_left, one_pair, Call, Present, Conflict, Op, OpKind, Query, Insert, Remove, Update, Range, Spec, tuples_of_edge, IsJoined, in_join, class_at, no_op, op_at, IsPlaced, physical_stripe, stripe_by_values, StripeLock}
 use Rattle.std.proofs.Common.{inl, inr, refl, sym, ap, subst, ◌∙◌}
 use Rattle.std.proofs.lemmas.Option.{get_or_from_slice_get}
-use Rattle.rc_tuple.specs.ColSet.{Within}
-use Rattle.rc_tuple.specs.MergeLaws.{value_in}
-use Rattle.rc_tuple.specs.RisingSet.{In, IsRising}
-use Rattle.rc_tuple.specs.RisingSetLaws.{in_gather, in_append, in_map, map_in}
-use Rattle.rc_tuple.specs.Tuple.{Pairs, cols_of, value, agrees, merge}
-use Rattle.rc_tuple.specs.TupleLaws.{agree_from, in_merge, merge_left, one_pair}
-use Rattle.rc_spec.specs.declared.call.Call.{Call}
-use Rattle.rc_spec.specs.declared.call.Reply.TheVariants.{Present, Conflict}
-use Rattle.rc_spec.specs.declared.items.Op.{Op}
-use Rattle.rc_spec.specs.declared.items.OpKind.{OpKind}
-use Rattle.rc_spec.specs.declared.items.OpKind.TheVariants.{Query, Insert, Remove, Update}
-use Rattle.rc_spec.specs.declared.range.Range.{Range}
-use Rattle.rc_spec.specs.declared.spec.Spec.{Spec}
-use Rattle.rc_spec.specs.Fragments.{tuples_of_edge}
-use Rattle.rc_spec.specs.HeathLaws.{IsJoined, in_join}
-use Rattle.rc_spec.specs.Placement.{class_at, no_op, op_at, IsPlaced}
-use Rattle.rc_spec.specs.Stripes.{physical_stripe}
-use Rattle.rc_spec.specs.StripesLaws.{stripe_by_values}
 use Rattle.rc_plan.specs.declared.statement.Statement.{Statement}
 use Rattle.rc_plan.specs.declared.statement.Statement.TheVariants.{Lock, Probe, Read, CheckAbsent, CheckFound, CheckDep, Apply, Emit, Commit, Release}
 use Rattle.rc_plan.specs.declared.statement.Which.{Which}
@@ -31,7 +13,6 @@ use Rattle.rc_plan.specs.LockOrderLaws.{IsOfClass-stripes_locked}
 use Rattle.rc_plan.specs.NamedStripes.{IsNamedBy}
 use Rattle.rc_plan.specs.PlanRules.{Progress, at_start, after, IsKnown, AreKnown, KeepsAll, KeepsFrom, KeepsPlanRules}
 use Rattle.rc_plan.specs.RunLaws.{named-apply, named-emit, named-keep_least, named-check_absent, named-check_dep}
-use Rattle.rc_spec.specs.Locks.{StripeLock}
 use Rattle.rc_plan.specs.StripeLocks.{stripe_lock_cmp}
 use Rattle.rc_plan.specs.StripeLocksLaws.{stripe_lock_order}
 

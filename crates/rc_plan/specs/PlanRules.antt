@@ -1,21 +1,6 @@
 -- The rules that an accepted plan keeps, and the first that is broken. Statements are tested in order, each by K1 to K7, on what is known of the run before it. (PLDI 2012, well-locked query plans and the order of locks; PLDI 2011, valid query plans.)
 use Rattle.std.specs.Prelude.{◌≡◌, ℕ, ◌<◌, ◌≤◌, Bool, true, false, List, [], ◌∷◌, ◌++◌, ◌⊎◌, Option, None, Some, map, length, IfSome, take, fold}
-use Rattle.std.specs.List.{flat_map, range_with_len, slice_get}
-use Rattle.std.specs.Ordering.{nat_cmp}
-use Rattle.rc_tuple.specs.RisingSet.{In, gather}
-use Rattle.rc_tuple.specs.ColSet.{Within, union}
-use Rattle.rc_spec.specs.declared.items.Op.{Op}
-use Rattle.rc_spec.specs.declared.items.OpKind.{OpKind}
-use Rattle.rc_spec.specs.declared.items.OpKind.TheVariants.{Query, Insert, Remove, Update}
-use Rattle.rc_spec.specs.declared.lock.Mode.{Mode}
-use Rattle.rc_spec.specs.declared.lock.Mode.TheVariants.{Exclusive}
-use Rattle.rc_spec.specs.declared.spec.Spec.{Spec}
-use Rattle.rc_spec.specs.Adequacy.{IsLossless}
-use Rattle.rc_spec.specs.Calls.{all_columns, value_columns, GivesTuple}
-use Rattle.rc_spec.specs.Decomposition.{edge_at, target_columns}
-use Rattle.rc_spec.specs.First.{IsFirstFailing}
-use Rattle.rc_spec.specs.Placement.{class_at, class_of}
-use Rattle.rc_spec.specs.Ranges.{range_columns}
+use Rattle.rc_plan.specs.Imports.{flat_map, range_with_len, slice_get, nat_cmp, In, gather, Within, union, Op, OpKind, Query, Insert, Remove, Update, Mode, Exclusive, Spec, IsLossless, all_columns, value_columns, GivesTuple, edge_at, target_columns, IsFirstFailing, class_at, class_of, range_columns}
 use Rattle.rc_plan.specs.declared.refusal.PlanRefusal.{PlanRefusal}
 use Rattle.rc_plan.specs.declared.refusal.PlanRule.{PlanRule}
 use Rattle.rc_plan.specs.declared.refusal.PlanRule.TheVariants.{K1, K2, K3, K4, K5, K6, K7}

@@ -1,14 +1,8 @@
 -- Laws of the rules of plans: the checks are the rules, and one broken rule at most is the first.
 use Rattle.std.specs.Prelude.{◌≡◌, ℕ, zero, suc, ◌+◌, ◌<◌, ◌≤◌, drop, List, [], ◌∷◌, Option, None, Some, length, take, fold}
-use Rattle.std.specs.List.{slice_get, flat_map, range_with_len}
+use Rattle.rc_plan.specs.Imports.{slice_get, flat_map, range_with_len, In, in_map, map_in, slice_get_there, Op, Spec, EachHolds, each_append, each_one, each_left, each_right, each_listed, listed_each, one_first, first_not_each}
 use Rattle.std.proofs.Common.{inl, inr, refl, sym, ap, subst, ◌∙◌, arith}
 use Rattle.std.proofs.lemmas.Option.{slice_get_past}
-use Rattle.rc_tuple.specs.RisingSet.{In}
-use Rattle.rc_tuple.specs.RisingSetLaws.{in_map, map_in, slice_get_there}
-use Rattle.rc_spec.specs.declared.items.Op.{Op}
-use Rattle.rc_spec.specs.declared.spec.Spec.{Spec}
-use Rattle.rc_spec.specs.First.{EachHolds}
-use Rattle.rc_spec.specs.FirstLaws.{each_append, each_one, each_left, each_right, each_listed, listed_each, one_first, first_not_each}
 use Rattle.rc_plan.specs.declared.refusal.PlanRefusal.{PlanRefusal}
 use Rattle.rc_plan.specs.declared.refusal.PlanRule.{PlanRule}
 use Rattle.rc_plan.specs.declared.refusal.PlanRule.TheVariants.{K1, K2, K3, K4, K5, K6, K7}

@@ -1,13 +1,6 @@
 -- How plans and their rules are printed.
 use Rattle.std.specs.Prelude.{ℕ, List, [], ◌∷◌, ◌++◌, codes, get_or, map}
-use Rattle.std.specs.List.{flat_map}
-use Rattle.std.specs.Fmt.{decimal}
-use Rattle.rc_spec.specs.declared.lock.Mode.{Mode}
-use Rattle.rc_spec.specs.declared.lock.Mode.TheVariants.{Shared, Exclusive}
-use Rattle.rc_spec.specs.declared.spec.Spec.{Spec}
-use Rattle.rc_spec.specs.Decomposition.{edge_at}
-use Rattle.rc_spec.specs.Placement.{class_at, op_at}
-use Rattle.rc_spec.specs.RefusalText.{no_column}
+use Rattle.rc_plan.specs.Imports.{flat_map, decimal, Mode, Shared, Exclusive, Spec, edge_at, class_at, op_at, no_column}
 use Rattle.rc_plan.specs.declared.refusal.PlanRule.{PlanRule}
 use Rattle.rc_plan.specs.declared.refusal.PlanRule.TheVariants.{K1, K2, K3, K4, K5, K6, K7}
 use Rattle.rc_plan.specs.declared.statement.ReadMode.{ReadMode}

@@ -1,40 +1,15 @@
 -- Laws of searches behind a Probe, in an insert and in an update.
 use Rattle.std.specs.Prelude.{◌≡◌, ℕ, ◌<◌, ◌≤◌, true, false, List, [], ◌∷◌, ◌++◌, ◌⊎◌, None, Some, map, length}
-use Rattle.std.specs.Ordering.{nat_cmp}
+use Rattle.rc_plan.specs.Imports.{nat_cmp, In, IsRising, gather, same_rising, rising_filter, has, Within, inter, inter_in, rising_range, Pairs, cols_of, project, pair_cmp, merge, Agree, pair_order, in_project, project_in, project_less, rising_cols, in_merge, merge_right, rising_merge, one_pair, inter-same, IsRelation, rising_of, Op, OpKind, Query, Insert, Remove, Update, Mode, Spec, IsAdequate, all_columns, GivesTuple, target_within, IsSeen, IsReached, IsInRange, class_at, class_of, IsPlaced, physical_stripe, row_in, AllHeld, target_columns, StripeLock}
 use Rattle.std.proofs.Common.{inl, inr, refl, sym, ap, subst, ◌∙◌, arith}
 use Rattle.std.proofs.lemmas.Bool.{false≢true, true≢false}
-use Rattle.rc_tuple.specs.RisingSet.{In, IsRising, gather}
-use Rattle.rc_tuple.specs.RisingSetLaws.{same_rising, rising_filter}
-use Rattle.rc_tuple.specs.ColSet.{has, Within, inter}
-use Rattle.rc_tuple.specs.ColSetLaws.{inter_in, rising_range}
-use Rattle.rc_tuple.specs.Tuple.{Pairs, cols_of, project, pair_cmp, merge}
-use Rattle.rc_tuple.specs.TupleLaws.{Agree, pair_order, in_project, project_in, project_less, rising_cols, in_merge, merge_right, rising_merge, one_pair}
-use Rattle.rc_tuple.specs.MergeLaws.{inter-same}
-use Rattle.rc_tuple.specs.Relation.{IsRelation}
-use Rattle.rc_tuple.specs.RelationLaws.{rising_of}
-use Rattle.rc_spec.specs.declared.items.Op.{Op}
-use Rattle.rc_spec.specs.declared.items.OpKind.{OpKind}
-use Rattle.rc_spec.specs.declared.items.OpKind.TheVariants.{Query, Insert, Remove, Update}
-use Rattle.rc_spec.specs.declared.lock.Mode.{Mode}
-use Rattle.rc_spec.specs.declared.spec.Spec.{Spec}
-use Rattle.rc_spec.specs.Adequacy.{IsAdequate}
-use Rattle.rc_spec.specs.Calls.{all_columns, GivesTuple}
-use Rattle.rc_spec.specs.ContentsLaws.{target_within}
-use Rattle.rc_spec.specs.HeathLaws.{IsSeen, IsReached}
-use Rattle.rc_spec.specs.InRange.{IsInRange}
-use Rattle.rc_spec.specs.Placement.{class_at, class_of, IsPlaced}
-use Rattle.rc_spec.specs.Stripes.{physical_stripe}
 use Rattle.rc_plan.specs.declared.statement.Statement.{Statement}
 use Rattle.rc_plan.specs.declared.statement.Statement.TheVariants.{Lock, Probe, Read, CheckAbsent, CheckFound, CheckDep, Apply, Emit, Commit, Release}
 use Rattle.rc_plan.specs.declared.statement.Which.{Which}
 use Rattle.rc_plan.specs.declared.statement.Which.TheVariants as which
-use Rattle.rc_spec.specs.CountedRows.{row_in}
-use Rattle.rc_spec.specs.CountedRowsLaws.{AllHeld}
 use Rattle.rc_plan.specs.Evaluation.{some_left, stripes_locked, named_by}
 use Rattle.rc_plan.specs.PlanRules.{Phase, Progress, after, IsLocked, IsAtRisk, IsQuery, ChecksAreDone, Covers, KeepsFrom}
-use Rattle.rc_spec.specs.Decomposition.{target_columns}
 use Rattle.rc_plan.specs.RunLaws.{cols_of-project}
-use Rattle.rc_spec.specs.Locks.{StripeLock}
 use Rattle.rc_plan.specs.StripeLocks.{stripe_lock_cmp, stripes_of}
 use Rattle.rc_plan.specs.StripeLocksLaws.{named_before, named_now, physical_stripe-agreeing, physical_stripe-in_band, striping_in_target}
 use Rattle.rc_plan.specs.Search.{IsSearching}

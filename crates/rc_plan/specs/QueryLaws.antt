@@ -1,34 +1,14 @@
 -- The law of accepted plans, for queries.
 use Rattle.std.specs.Prelude.{◌≡◌, ℕ, ◌<◌, nat_le, Bool, true, false, List, [], ◌∷◌, ◌++◌, None, Some, cond, filter, map, length}
-use Rattle.std.specs.Ordering.{nat_cmp}
+use Rattle.rc_plan.specs.Imports.{nat_cmp, In, IsRising, gather, Within, rising_range, Pairs, cols_of, pair_cmp, IsRelation, Satisfies, Rows, Many, Op, Query, Spec, IsAdequate, all_columns, join, EdgeRow, all_rows, tuples_of_edge, rows_on, IsReached, IsInRange, IsPlaced, plain_by, rows_of, range_column, in_ranges, is_asked, StripeLock, Call}
 use Rattle.std.proofs.Common.{inl, inr, refl, sym, ap, subst, ◌∙◌}
-use Rattle.rc_tuple.specs.RisingSet.{In, IsRising, gather}
-use Rattle.rc_tuple.specs.ColSet.{Within}
-use Rattle.rc_tuple.specs.ColSetLaws.{rising_range}
-use Rattle.rc_tuple.specs.Tuple.{Pairs, cols_of, pair_cmp}
-use Rattle.rc_tuple.specs.Relation.{IsRelation, Satisfies}
-use Rattle.rc_spec.specs.declared.call.Reply.TheVariants.{Rows, Many}
-use Rattle.rc_spec.specs.declared.items.Op.{Op}
-use Rattle.rc_spec.specs.declared.items.OpKind.TheVariants.{Query}
-use Rattle.rc_spec.specs.declared.spec.Spec.{Spec}
-use Rattle.rc_spec.specs.Adequacy.{IsAdequate}
-use Rattle.rc_spec.specs.Calls.{all_columns}
-use Rattle.rc_spec.specs.Contents.{join}
-use Rattle.rc_spec.specs.Fragments.{EdgeRow, all_rows, tuples_of_edge, rows_on}
-use Rattle.rc_spec.specs.HeathLaws.{IsReached}
-use Rattle.rc_spec.specs.InRange.{IsInRange}
-use Rattle.rc_spec.specs.Placement.{IsPlaced}
-use Rattle.rc_spec.specs.Plain.{plain_by, rows_of}
-use Rattle.rc_spec.specs.Ranges.{range_column, in_ranges, is_asked}
 use Rattle.rc_plan.specs.declared.statement.Statement.{Statement}
 use Rattle.rc_plan.specs.declared.statement.Statement.TheVariants.{Lock, Probe, Read, CheckAbsent, CheckFound, CheckDep, Apply, Emit, Commit, Release}
 use Rattle.rc_plan.specs.Evaluation.{RunState, named_by, answer, run, rows_as_taken}
 use Rattle.rc_plan.specs.MatchLaws.{answer-asked}
 use Rattle.rc_plan.specs.PlanRules.{Phase, Progress, after, AreKnown, KeepsFrom}
 use Rattle.rc_plan.specs.RunLaws.{EndsAs, run-replied, stripes_grow, lock_keeps, read_keeps, read_same}
-use Rattle.rc_spec.specs.Locks.{StripeLock}
 use Rattle.rc_plan.specs.StripeLocks.{stripe_lock_cmp, stripes_of}
-use Rattle.rc_spec.specs.declared.call.Call.{Call}
 use Rattle.rc_plan.specs.Search.{searching, IsSearching}
 
 -- a query takes nothing back

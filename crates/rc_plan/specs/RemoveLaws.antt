@@ -1,44 +1,17 @@
 -- The law of accepted plans, for removes.
 use Rattle.std.specs.Prelude.{◌≡◌, ℕ, ◌<◌, List, [], ◌∷◌, ◌++◌, None, filter, length, IfSome}
-use Rattle.std.specs.Ordering.{nat_cmp}
+use Rattle.rc_plan.specs.Imports.{nat_cmp, In, IsRising, gather, in_filter, Within, rising_range, in_range_below, Pairs, cols_of, pair_cmp, tuple_cmp, matches, in_project, one_pair, IsRelation, Satisfies, Removed, Absent, Op, Remove, Exclusive, Spec, IsAdequate, all_columns, join, target_within, all_rows, tuples_of_edge, rows_on, IsReached, IsInRange, HasColumnAndNode, class_at, class_of, IsPlaced, plain_by, removed_first, physical_stripe, row_in, without_rows, AllHeld, without_rows-fragments, with_rows-without, fragment_of-remove, target_columns, StripeLock, Call}
 use Rattle.std.proofs.Common.{inl, inr, refl, sym, ap, subst, ◌∙◌}
-use Rattle.rc_tuple.specs.RisingSet.{In, IsRising, gather}
-use Rattle.rc_tuple.specs.RisingSetLaws.{in_filter}
-use Rattle.rc_tuple.specs.ColSet.{Within}
-use Rattle.rc_tuple.specs.ColSetLaws.{rising_range, in_range_below}
-use Rattle.rc_tuple.specs.Tuple.{Pairs, cols_of, pair_cmp, tuple_cmp, matches}
-use Rattle.rc_tuple.specs.TupleLaws.{in_project, one_pair}
-use Rattle.rc_tuple.specs.Relation.{IsRelation, Satisfies}
-use Rattle.rc_spec.specs.declared.call.Reply.TheVariants.{Removed, Absent}
-use Rattle.rc_spec.specs.declared.items.Op.{Op}
-use Rattle.rc_spec.specs.declared.items.OpKind.TheVariants.{Remove}
-use Rattle.rc_spec.specs.declared.lock.Mode.TheVariants.{Exclusive}
-use Rattle.rc_spec.specs.declared.spec.Spec.{Spec}
-use Rattle.rc_spec.specs.Adequacy.{IsAdequate}
-use Rattle.rc_spec.specs.Calls.{all_columns}
-use Rattle.rc_spec.specs.Contents.{join}
-use Rattle.rc_spec.specs.ContentsLaws.{target_within}
-use Rattle.rc_spec.specs.Fragments.{all_rows, tuples_of_edge, rows_on}
-use Rattle.rc_spec.specs.HeathLaws.{IsReached}
-use Rattle.rc_spec.specs.InRange.{IsInRange, HasColumnAndNode}
-use Rattle.rc_spec.specs.Placement.{class_at, class_of, IsPlaced}
-use Rattle.rc_spec.specs.Plain.{plain_by, removed_first}
-use Rattle.rc_spec.specs.Stripes.{physical_stripe}
 use Rattle.rc_plan.specs.declared.statement.Statement.{Statement}
 use Rattle.rc_plan.specs.declared.statement.Statement.TheVariants.{Lock, Probe, Read, CheckAbsent, CheckFound, CheckDep, Apply, Emit, Commit, Release}
 use Rattle.rc_plan.specs.declared.statement.Which.{Which}
 use Rattle.rc_plan.specs.declared.statement.Which.TheVariants as which
-use Rattle.rc_spec.specs.CountedRows.{row_in, without_rows}
-use Rattle.rc_spec.specs.CountedRowsLaws.{AllHeld, without_rows-fragments, with_rows-without, fragment_of-remove}
 use Rattle.rc_plan.specs.Evaluation.{RunState, stripes_locked, named_by, remove_least, run}
 use Rattle.rc_plan.specs.MatchLaws.{all_seen_match}
 use Rattle.rc_plan.specs.PlanRules.{Phase, Progress, after, AreKnown, IsLocked, Covers, KeepsFrom}
-use Rattle.rc_spec.specs.Decomposition.{target_columns}
 use Rattle.rc_plan.specs.RunLaws.{cols_of-project, EndsAs, run-replied, stripes_grow, lock_keeps, read_keeps, read_same}
-use Rattle.rc_spec.specs.Locks.{StripeLock}
 use Rattle.rc_plan.specs.StripeLocks.{stripe_lock_cmp, stripes_of, AreIn}
 use Rattle.rc_plan.specs.StripeLocksLaws.{AreIn-more, not_named, striping_in_target}
-use Rattle.rc_spec.specs.declared.call.Call.{Call}
 use Rattle.rc_plan.specs.Search.{searching, IsSearching}
 
 abbrev pub remove_op : List ℕ → List ℕ → Op

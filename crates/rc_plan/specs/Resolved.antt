@@ -1,11 +1,6 @@
 -- What plans ask of the edges and the lock classes of a specification, found once for all calls.
 use Rattle.std.specs.Prelude.{◌≡◌, ℕ, ◌+◌, ◌<◌, ◌≤◌, List, Some, length}
-use Rattle.std.specs.List.{slice_get}
-use Rattle.rc_tuple.specs.ColSet.{minus}
-use Rattle.rc_spec.specs.Decomposition.{bound, edge_at, source_and_key}
-use Rattle.rc_spec.specs.Placement.{class_of}
-use Rattle.rc_spec.specs.Stripes.{band_start}
-use Rattle.rc_spec.specs.declared.spec.Spec.{Spec}
+use Rattle.rc_plan.specs.Imports.{slice_get, minus, bound, edge_at, source_and_key, class_of, band_start, Spec}
 use Rattle.rc_plan.specs.declared.resolved.ResolvedEdge.{ResolvedEdge}
 
 -- what is told of the edge is the specification's

@@ -1,35 +1,7 @@
 -- Laws of runs: what the bindings are while an accepted plan searches, and that the rows of the named stripes are enough for its reads.
 use Rattle.std.specs.Prelude.{◌≡◌, ℕ, zero, suc, take, drop, ◌<◌, Bool, true, false, List, [], ◌∷◌, ◌++◌, Option, None, Some, map, cond, length, is_some}
 use Rattle.std.proofs.Common.{inl, inr, refl, sym, subst}
-use Rattle.rc_tuple.specs.RisingSet.{In, IsRising, gather}
-use Rattle.rc_tuple.specs.RisingSetLaws.{same_rising, gather_in, append_in_left, in_map, map_in}
-use Rattle.rc_tuple.specs.ColSet.{Within, union}
-use Rattle.rc_tuple.specs.ColSetLaws.{in_union, union_left, union_right, union_within, rising_range}
-use Rattle.rc_tuple.specs.Tuple.{Pairs, cols_of, project, agrees, pair_cmp, tuple_cmp, merge}
-use Rattle.rc_tuple.specs.TupleLaws.{Agree, agree_from, tuple_order, project_in, merge_left, merge_right}
-use Rattle.rc_tuple.specs.Relation.{IsRelation, Satisfies}
-use Rattle.rc_spec.specs.declared.call.Call.{Call}
-use Rattle.rc_spec.specs.declared.call.Reply.{Reply}
-use Rattle.rc_spec.specs.declared.call.Reply.TheVariants.{Present, Conflict}
-use Rattle.rc_spec.specs.declared.items.Op.{Op}
-use Rattle.rc_spec.specs.declared.items.OpKind.{OpKind}
-use Rattle.rc_spec.specs.declared.items.OpKind.TheVariants.{Query, Insert, Remove, Update}
-use Rattle.rc_spec.specs.declared.lock.Mode.{Mode}
-use Rattle.rc_spec.specs.declared.lock.Mode.TheVariants.{Exclusive}
-use Rattle.rc_spec.specs.declared.range.Range.{Range}
-use Rattle.rc_spec.specs.declared.spec.Spec.{Spec}
-use Rattle.rc_spec.specs.Adequacy.{IsAdequate}
-use Rattle.rc_spec.specs.Calls.{all_columns}
-use Rattle.rc_spec.specs.Contents.{join}
-use Rattle.rc_spec.specs.ContentsLaws.{target_within, lossless_holds}
-use Rattle.rc_spec.specs.Decomposition.{bound, target_columns}
-use Rattle.rc_spec.specs.Fragments.{EdgeRow, all_rows, tuples_of_edge, row_stripe, rows_on, fragment_of}
-use Rattle.rc_spec.specs.FragmentsLaws.{in_tuples_of_edge, tuples_of_edge_in, AreProjections-rows, in_fragments, fragments_in}
-use Rattle.rc_spec.specs.HeathLaws.{IsJoined, AreProjections, in_join, join_in, rising_join, reached_more}
-use Rattle.rc_spec.specs.InRange.{IsInRange}
-use Rattle.rc_spec.specs.Placement.{class_at, class_of, IsPlaced}
-use Rattle.rc_spec.specs.Plain.{Outcome}
-use Rattle.rc_spec.specs.Stripes.{physical_stripe}
+use Rattle.rc_plan.specs.Imports.{In, IsRising, gather, same_rising, gather_in, append_in_left, in_map, map_in, Within, union, in_union, union_left, union_right, union_within, rising_range, Pairs, cols_of, project, agrees, pair_cmp, tuple_cmp, merge, Agree, agree_from, tuple_order, project_in, merge_left, merge_right, IsRelation, Satisfies, Call, Reply, Present, Conflict, Op, OpKind, Query, Insert, Remove, Update, Mode, Exclusive, Range, Spec, IsAdequate, all_columns, join, target_within, lossless_holds, bound, target_columns, EdgeRow, all_rows, tuples_of_edge, row_stripe, rows_on, fragment_of, in_tuples_of_edge, tuples_of_edge_in, AreProjections-rows, in_fragments, fragments_in, IsJoined, AreProjections, in_join, join_in, rising_join, reached_more, IsInRange, class_at, class_of, IsPlaced, Outcome, physical_stripe, StripeLock}
 use Rattle.rc_plan.specs.declared.statement.ReadMode.{ReadMode}
 use Rattle.rc_plan.specs.declared.statement.Statement.{Statement}
 use Rattle.rc_plan.specs.declared.statement.Statement.TheVariants.{Lock, Probe, Read, CheckAbsent, CheckFound, CheckDep, Apply, Emit, Commit, Release}
@@ -37,7 +9,6 @@ use Rattle.rc_plan.specs.declared.statement.Which.{Which}
 use Rattle.rc_plan.specs.declared.statement.Which.TheVariants as which
 use Rattle.rc_plan.specs.Evaluation.{RunState, stripes_locked, named_by, some_left, some_differs, remove_least, keep_least, replace, apply, emit, run_one, run_next, run, rows_as_taken}
 use Rattle.rc_plan.specs.PlanRules.{Progress, after, at_start, given_columns, IsKeyBound, KeepsK3, KeepsK5}
-use Rattle.rc_spec.specs.Locks.{StripeLock}
 use Rattle.rc_plan.specs.StripeLocks.{stripe_lock_cmp, stripes_of}
 use Rattle.rc_plan.specs.StripeLocksLaws.{stripe_lock_order, named_before, named_now, physical_stripe-agreeing, physical_stripe-in_band, striping_in_target}
 use Rattle.rc_plan.specs.Search.{IsSearching}

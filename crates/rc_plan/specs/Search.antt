@@ -1,20 +1,9 @@
 -- Where a run stands that searches, against what the rules know of it.
 use Rattle.std.specs.Prelude.{◌≡◌, ℕ, List, Option, None}
-use Rattle.rc_tuple.specs.ColSet.{Within}
-use Rattle.rc_tuple.specs.RisingSet.{In, IsRising}
-use Rattle.rc_tuple.specs.Tuple.{Pairs, cols_of, tuple_cmp}
-use Rattle.rc_tuple.specs.TupleLaws.{Agree}
-use Rattle.rc_spec.specs.declared.spec.Spec.{Spec}
-use Rattle.rc_spec.specs.Calls.{all_columns}
-use Rattle.rc_spec.specs.Decomposition.{bound}
-use Rattle.rc_spec.specs.Fragments.{EdgeRow}
-use Rattle.rc_spec.specs.HeathLaws.{IsReached}
-use Rattle.rc_spec.specs.Placement.{class_at}
-use Rattle.rc_spec.specs.Stripes.{physical_stripe}
+use Rattle.rc_plan.specs.Imports.{Within, In, IsRising, Pairs, cols_of, tuple_cmp, Agree, Spec, all_columns, bound, EdgeRow, IsReached, class_at, physical_stripe, StripeLock}
 use Rattle.rc_plan.specs.declared.statement.Which.{Which}
 use Rattle.rc_plan.specs.Evaluation.{RunState}
 use Rattle.rc_plan.specs.PlanRules.{Covers, Phase, Progress}
-use Rattle.rc_spec.specs.Locks.{StripeLock}
 use Rattle.rc_plan.specs.StripeLocks.{stripes_of}
 
 -- a state with no reply

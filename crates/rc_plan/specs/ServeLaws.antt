@@ -1,29 +1,9 @@
 -- The law of accepted plans, for one call and for several in turn.
 use Rattle.std.specs.Prelude.{◌≡◌, ℕ, List, [], ◌∷◌, None, Some, map, length}
-use Rattle.std.specs.Ordering.{nat_cmp}
+use Rattle.rc_plan.specs.Imports.{nat_cmp, In, IsRising, gather, in_gather, rising_gather, slice_get_in, gather-rising, nat_order, Within, in_range_below, rising_range, Pairs, cols_of, rising_cols, IsRelation, Satisfies, Op, OpKind, Query, Insert, Remove, Update, Spec, IsAdequate, all_columns, plain_keeps_relation, all_rows, rows_on, EdgeRow, IsInRange, HasColumnAndNode, IsOpAmong, no_op, op_at, IsPlaced, KeepsO, Outcome, plain, plain_by, plain-known, plain_satisfies, range_column, range_columns, Call}
 use Rattle.std.proofs.Common.{inl, inr, refl, sym, ap, subst, ◌∙◌}
 use Rattle.std.proofs.lemmas.Bool.{false≢true}
 use Rattle.std.proofs.lemmas.Option.{get_or_from_slice_get}
-use Rattle.rc_tuple.specs.RisingSet.{In, IsRising, gather}
-use Rattle.rc_tuple.specs.RisingSetLaws.{in_gather, rising_gather, slice_get_in, gather-rising, nat_order}
-use Rattle.rc_tuple.specs.ColSet.{Within}
-use Rattle.rc_tuple.specs.ColSetLaws.{in_range_below, rising_range}
-use Rattle.rc_tuple.specs.Tuple.{Pairs, cols_of}
-use Rattle.rc_tuple.specs.TupleLaws.{rising_cols}
-use Rattle.rc_tuple.specs.Relation.{IsRelation, Satisfies}
-use Rattle.rc_spec.specs.declared.items.Op.{Op}
-use Rattle.rc_spec.specs.declared.items.OpKind.{OpKind}
-use Rattle.rc_spec.specs.declared.items.OpKind.TheVariants.{Query, Insert, Remove, Update}
-use Rattle.rc_spec.specs.declared.spec.Spec.{Spec}
-use Rattle.rc_spec.specs.Adequacy.{IsAdequate}
-use Rattle.rc_spec.specs.Calls.{all_columns}
-use Rattle.rc_spec.specs.CallsLaws.{plain_keeps_relation}
-use Rattle.rc_spec.specs.Fragments.{all_rows, rows_on, EdgeRow}
-use Rattle.rc_spec.specs.InRange.{IsInRange, HasColumnAndNode, IsOpAmong}
-use Rattle.rc_spec.specs.Placement.{no_op, op_at, IsPlaced, KeepsO}
-use Rattle.rc_spec.specs.Plain.{Outcome, plain, plain_by}
-use Rattle.rc_spec.specs.PlainLaws.{plain-known, plain_satisfies}
-use Rattle.rc_spec.specs.Ranges.{range_column, range_columns}
 use Rattle.rc_plan.specs.declared.statement.Statement.{Statement}
 use Rattle.rc_plan.specs.Evaluation.{begun, run, eval, RunState}
 use Rattle.rc_plan.specs.InsertLaws.{insert_op, insert_runs}
@@ -34,7 +14,6 @@ use Rattle.rc_plan.specs.RemoveLaws.{remove_op, remove_runs}
 use Rattle.rc_plan.specs.RunLaws.{EndsAs, search_begins}
 use Rattle.rc_plan.specs.StripeLocks.{stripes_of, AreHeld}
 use Rattle.rc_plan.specs.StripeLocksLaws.{held_stripes, held_exclusive}
-use Rattle.rc_spec.specs.declared.call.Call.{Call}
 use Rattle.rc_plan.specs.UpdateLaws.{update_op, update_runs}
 use Rattle.rc_plan.specs.Turns.{HasAcceptedPlan, eval_replies, rows_after, AllAreHeld, plain_replies}
 

@@ -1,15 +1,6 @@
 -- Stripes of classes, locks of stripes, each in a mode, and which of them are held. (PLDI 2012, lock striping.)
 use Rattle.std.specs.Prelude.{ℕ, List, map, ◌≤◌, ◌≡◌, ◌<◌, ◌+◌}
-use Rattle.std.specs.List.{range_with_len}
-use Rattle.std.specs.Ordering.{ordering_then, nat_cmp}
-use Rattle.std.specs.declared.cmp.Ordering.{Ordering}
-use Rattle.rc_tuple.specs.RisingSet.{In}
-use Rattle.rc_spec.specs.declared.lock.Mode.{Mode}
-use Rattle.rc_spec.specs.declared.lock.Mode.TheVariants.{Shared, Exclusive}
-use Rattle.rc_spec.specs.declared.spec.Spec.{Spec}
-use Rattle.rc_spec.specs.Locks.{StripeLock, Suffices}
-use Rattle.rc_spec.specs.Placement.{class_at}
-use Rattle.rc_spec.specs.Stripes.{band_start}
+use Rattle.rc_plan.specs.Imports.{range_with_len, ordering_then, nat_cmp, Ordering, In, Mode, Shared, Exclusive, Spec, StripeLock, Suffices, class_at, band_start}
 
 -- ---- the stripes of a class
 

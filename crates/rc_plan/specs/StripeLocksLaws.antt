@@ -1,27 +1,10 @@
 -- Laws of stripes and of their locks.
 use Rattle.std.specs.Prelude.{◌≡◌, ℕ, zero, suc, ◌+◌, ◌<◌, ◌≤◌, List, ◌++◌, map, length, ◌↔◌}
-use Rattle.std.specs.List.{range_with_len}
-use Rattle.std.specs.declared.cmp.Ordering.TheVariants.{Equal}
-use Rattle.std.specs.Ordering.{nat_cmp}
+use Rattle.rc_plan.specs.Imports.{range_with_len, Equal, nat_cmp, In, gather, IsOrder, in_gather, gather_in, in_map, map_in, in_append, append_in_left, append_in_right, nat_order, Within, Pairs, cols_of, Agree, agrees_to, then_equal, Mode, Shared, Exclusive, Spec, IsAdequate, class_at, class_of, IsPlaced, band_start, physical_stripe, agreeing_law, stripe_in_band, band_before, target_columns, StripeLock, Suffices, in_range_bounds}
 use Rattle.std.proofs.Common.{inl, inr, refl, sym, ap, subst, arith}
 use Rattle.std.proofs.lemmas.Bool.{cases_eq}
 use Rattle.std.proofs.lemmas.Cmp.{nat_cmp_total, then_total, on_total}
-use Rattle.rc_tuple.specs.RisingSet.{In, gather}
-use Rattle.rc_tuple.specs.RisingSetLaws.{IsOrder, in_gather, gather_in, in_map, map_in, in_append, append_in_left, append_in_right, nat_order}
-use Rattle.rc_tuple.specs.ColSet.{Within}
-use Rattle.rc_tuple.specs.Tuple.{Pairs, cols_of}
-use Rattle.rc_tuple.specs.TupleLaws.{Agree, agrees_to, then_equal}
-use Rattle.rc_spec.specs.declared.lock.Mode.{Mode}
-use Rattle.rc_spec.specs.declared.lock.Mode.TheVariants.{Shared, Exclusive}
-use Rattle.rc_spec.specs.declared.spec.Spec.{Spec}
-use Rattle.rc_spec.specs.Adequacy.{IsAdequate}
-use Rattle.rc_spec.specs.Placement.{class_at, class_of, IsPlaced}
-use Rattle.rc_spec.specs.Stripes.{band_start, physical_stripe}
-use Rattle.rc_spec.specs.StripesLaws.{agreeing_law, stripe_in_band, band_before}
-use Rattle.rc_spec.specs.Decomposition.{target_columns}
-use Rattle.rc_spec.specs.Locks.{StripeLock, Suffices}
 use Rattle.rc_plan.specs.StripeLocks.{mode_number, stripe_lock_cmp, stripes_of, AreHeld, band, AreIn, IsOfClass}
-use Rattle.rc_tuple.specs.ColSetLaws.{in_range_bounds}
 
 -- ---- the order of locks
 

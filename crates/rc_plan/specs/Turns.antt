@@ -1,19 +1,10 @@
 -- Calls with their plans, evaluated one after another.
 use Rattle.std.specs.Prelude.{List, [], ◌∷◌, Option, Some, map}
-use Rattle.rc_tuple.specs.Tuple.{Pairs}
-use Rattle.rc_spec.specs.declared.call.Call.{Call}
-use Rattle.rc_spec.specs.declared.call.Reply.{Reply}
-use Rattle.rc_spec.specs.declared.items.Op.{Op}
-use Rattle.rc_spec.specs.declared.spec.Spec.{Spec}
-use Rattle.rc_spec.specs.Calls.{FitsAt}
-use Rattle.rc_spec.specs.Fragments.{EdgeRow}
-use Rattle.rc_spec.specs.Placement.{KeepsO}
-use Rattle.rc_spec.specs.Plain.{plain}
+use Rattle.rc_plan.specs.Imports.{Pairs, Call, Reply, Op, Spec, FitsAt, EdgeRow, KeepsO, plain, StripeLock}
 use Rattle.rc_plan.specs.declared.statement.Statement.{Statement}
 use Rattle.rc_plan.specs.Compiled.{plan_at}
 use Rattle.rc_plan.specs.Evaluation.{eval}
 use Rattle.rc_plan.specs.PlanRules.{AreKnown, KeepsPlanRules}
-use Rattle.rc_spec.specs.Locks.{StripeLock}
 use Rattle.rc_plan.specs.StripeLocks.{AreHeld}
 
 -- a call, and the plan of its operation

@@ -1,38 +1,8 @@
 -- The law of accepted plans, for updates.
 use Rattle.std.specs.Prelude.{◌≡◌, ℕ, ◌-◌, ◌<◌, ◌≤◌, ◌&&◌, Bool, true, false, List, [], ◌∷◌, ◌++◌, Option, None, Some, cond, filter, not, length}
-use Rattle.std.specs.Ordering.{nat_cmp}
+use Rattle.rc_plan.specs.Imports.{nat_cmp, In, IsRising, put, gather, same_rising, in_gather, gather_in, rising_filter, in_filter, filter_in, get_or_in, nat_order, Within, Pairs, cols_of, project, pair_cmp, tuple_cmp, tuple_eq, agree_on, in_project, project-project, project_less, one_pair, tuple_order, same_from_test, test_from_same, project_all, IsRelation, Satisfies, Follows, rising_of, in_list_any, list_any_in, agree_from_test, test_from_agree, satisfies_fewer, Call, Reply, Updated, Conflict, Absent, Op, Update, Mode, Exclusive, Spec, IsAdequate, all_columns, join, holds_deps, row_in, with_rows, without_rows, AllHeld, with_rows-fragments, without_rows-fragments, with_rows-without, without_rows-with, fragment_of-insert, fragment_of-remove, target_columns, EdgeRow, all_rows, tuples_of_edge, rows_on, fragment_of, IsSeen, IsInRange, class_at, class_of, IsPlaced, Outcome, plain_by, without, update-absent, update-found, physical_stripe, StripeLock}
 use Rattle.std.proofs.Common.{inl, inr, refl, sym, ap, subst, ◌∙◌, arith}
 use Rattle.std.proofs.lemmas.Bool.{false≢true, true≢false, cases_Bool, not_from_false, not-true, and_from, and_parts}
-use Rattle.rc_tuple.specs.RisingSet.{In, IsRising, put, gather}
-use Rattle.rc_tuple.specs.RisingSetLaws.{same_rising, in_gather, gather_in, rising_filter, in_filter, filter_in, get_or_in, nat_order}
-use Rattle.rc_tuple.specs.ColSet.{Within}
-use Rattle.rc_tuple.specs.Tuple.{Pairs, cols_of, project, pair_cmp, tuple_cmp, tuple_eq, agree_on}
-use Rattle.rc_tuple.specs.TupleLaws.{in_project, project-project, project_less, one_pair, tuple_order, same_from_test, test_from_same}
-use Rattle.rc_tuple.specs.MergeLaws.{project_all}
-use Rattle.rc_tuple.specs.Relation.{IsRelation, Satisfies, Follows}
-use Rattle.rc_tuple.specs.RelationLaws.{rising_of, in_list_any, list_any_in, agree_from_test, test_from_agree, satisfies_fewer}
-use Rattle.rc_spec.specs.declared.call.Call.{Call}
-use Rattle.rc_spec.specs.declared.call.Reply.{Reply}
-use Rattle.rc_spec.specs.declared.call.Reply.TheVariants.{Updated, Conflict, Absent}
-use Rattle.rc_spec.specs.declared.items.Op.{Op}
-use Rattle.rc_spec.specs.declared.items.OpKind.TheVariants.{Update}
-use Rattle.rc_spec.specs.declared.lock.Mode.{Mode}
-use Rattle.rc_spec.specs.declared.lock.Mode.TheVariants.{Exclusive}
-use Rattle.rc_spec.specs.declared.spec.Spec.{Spec}
-use Rattle.rc_spec.specs.Adequacy.{IsAdequate}
-use Rattle.rc_spec.specs.Calls.{all_columns}
-use Rattle.rc_spec.specs.Contents.{join}
-use Rattle.rc_spec.specs.ContentsLaws.{holds_deps}
-use Rattle.rc_spec.specs.CountedRows.{row_in, with_rows, without_rows}
-use Rattle.rc_spec.specs.CountedRowsLaws.{AllHeld, with_rows-fragments, without_rows-fragments, with_rows-without, without_rows-with, fragment_of-insert, fragment_of-remove}
-use Rattle.rc_spec.specs.Decomposition.{target_columns}
-use Rattle.rc_spec.specs.Fragments.{EdgeRow, all_rows, tuples_of_edge, rows_on, fragment_of}
-use Rattle.rc_spec.specs.HeathLaws.{IsSeen}
-use Rattle.rc_spec.specs.InRange.{IsInRange}
-use Rattle.rc_spec.specs.Placement.{class_at, class_of, IsPlaced}
-use Rattle.rc_spec.specs.Plain.{Outcome, plain_by, without}
-use Rattle.rc_spec.specs.PlainLaws.{update-absent, update-found}
-use Rattle.rc_spec.specs.Stripes.{physical_stripe}
 use Rattle.rc_plan.specs.declared.statement.ReadMode.{ReadMode}
 use Rattle.rc_plan.specs.declared.statement.Statement.{Statement}
 use Rattle.rc_plan.specs.declared.statement.Statement.TheVariants.{Lock, Probe, Read, CheckAbsent, CheckFound, CheckDep, Apply, Emit, Commit, Release}
@@ -45,7 +15,6 @@ use Rattle.rc_plan.specs.PlanRules.{Phase, Progress, after, AreKnown, IsLocked, 
 use Rattle.rc_plan.specs.ProbeLaws.{checked_before, more_named, tuple_named, probe_searching, IsProbing, columns_rise, t_rises, found_one, one_found, up_at, seen_at, tuple_is_named}
 use Rattle.rc_plan.specs.RunLaws.{cols_of-project, EndsAs, run-replied, stripes_grow, lock_keeps, read_keeps, read_same}
 use Rattle.rc_plan.specs.Search.{updating, IsSearching}
-use Rattle.rc_spec.specs.Locks.{StripeLock}
 use Rattle.rc_plan.specs.StripeLocks.{stripe_lock_cmp, stripes_of, AreIn}
 use Rattle.rc_plan.specs.StripeLocksLaws.{AreIn-more, not_named, physical_stripe-agreeing, striping_in_target}
 

@@ -1,25 +1,8 @@
 -- The planned plans of worked specifications over given routes, by computation: what the definitions say that no rule of plans asks for, as that locks come late and keyed and that reads are look-ups where they can be.
 use Rattle.std.specs.Prelude.{◌≡◌, List, [], ◌∷◌, if◌then◌else◌}
-use Rattle.std.proofs.Common.{ℕ, refl}
-use Rattle.rc_tuple.specs.ColSet.{has}
-use Rattle.rc_spec.specs.declared.items.Class.{Class}
-use Rattle.rc_spec.specs.declared.items.ColKind.TheVariants.{Num}
-use Rattle.rc_spec.specs.declared.items.Column.{Column}
-use Rattle.rc_spec.specs.declared.items.Edge.{Edge}
-use Rattle.rc_spec.specs.declared.items.EdgeKind.{EdgeKind}
+use Rattle.rc_query.proofs.Imports.{ℕ, refl, has, Class, Num, Column, Edge, EdgeKind, Node, Op, OpKind, Query, Insert, Remove, Update, Shared, Exclusive, Spec, Lookup, Scan, Statement, Lock, Probe, Read, CheckAbsent, CheckFound, CheckDep, Apply, Emit, Commit, Release, graph, add_edge, add_plan, drop_edge, drop_plan, Routing, planned_by}
 use Rattle.rc_spec.specs.declared.items.EdgeKind.TheVariants as kinds
-use Rattle.rc_spec.specs.declared.items.Node.{Node}
-use Rattle.rc_spec.specs.declared.items.Op.{Op}
-use Rattle.rc_spec.specs.declared.items.OpKind.{OpKind}
-use Rattle.rc_spec.specs.declared.items.OpKind.TheVariants.{Query, Insert, Remove, Update}
-use Rattle.rc_spec.specs.declared.lock.Mode.TheVariants.{Shared, Exclusive}
-use Rattle.rc_spec.specs.declared.spec.Spec.{Spec}
-use Rattle.rc_plan.specs.declared.statement.ReadMode.TheVariants.{Lookup, Scan}
-use Rattle.rc_plan.specs.declared.statement.Statement.{Statement}
-use Rattle.rc_plan.specs.declared.statement.Statement.TheVariants.{Lock, Probe, Read, CheckAbsent, CheckFound, CheckDep, Apply, Emit, Commit, Release}
 use Rattle.rc_plan.specs.declared.statement.Which.TheVariants as which
-use Rattle.rc_plan.specs.Example.{graph, add_edge, add_plan, drop_edge, drop_plan}
-use Rattle.rc_query.specs.Planned.{Routing, planned_by}
 
 -- ---- items without names
 

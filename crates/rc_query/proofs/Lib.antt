@@ -1,2 +1,3 @@
 mod Example
 pub mod QueryLemmas
+mod Imports

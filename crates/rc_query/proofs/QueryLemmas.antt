@@ -1,19 +1,6 @@
 -- The plan of a query as it was made.
 use Rattle.std.proofs.Common.{◌≡◌, ℕ, List, [], ◌++◌, length, sym, ap, subst, ◌∙◌}
-use Rattle.rc_tuple.specs.ColSet.{union}
-use Rattle.rc_spec.specs.declared.items.Op.{Op}
-use Rattle.rc_spec.specs.declared.items.OpKind.TheVariants.{Query}
-use Rattle.rc_spec.specs.declared.lock.Mode.TheVariants.{Shared}
-use Rattle.rc_spec.specs.declared.spec.Spec.{Spec}
-use Rattle.rc_spec.specs.Acceptance.{IsSealed}
-use Rattle.rc_spec.specs.InRange.{AreBelow, HasOutsAmong}
-use Rattle.rc_spec.specs.Ranges.{range_columns}
-use Rattle.rc_plan.specs.declared.statement.Statement.{Statement}
-use Rattle.rc_plan.specs.declared.statement.Statement.TheVariants.{Emit}
-use Rattle.rc_plan.specs.PlanRules.{pattern_columns}
-use Rattle.rc_query.specs.Ops.{MayBePlanned}
-use Rattle.rc_query.specs.Planned.{Routing, ChoosesRoutes, IsPlanned, classes_of_edges, locks_and_reads, ending, asked_columns, query_plan, plan_for}
-use Rattle.rc_query.specs.PlannedLaws.{chosen_routing, routing_chooses}
+use Rattle.rc_query.proofs.Imports.{union, Op, Query, Shared, Spec, IsSealed, AreBelow, HasOutsAmong, range_columns, Statement, Emit, pattern_columns, MayBePlanned, Routing, ChoosesRoutes, IsPlanned, classes_of_edges, locks_and_reads, ending, asked_columns, query_plan, plan_for, chosen_routing, routing_chooses}
 
 pub outs_among : (spec : Spec) (op : Op) → MayBePlanned spec op → (outs ranges : List ℕ) → op.kind ≡ Query outs ranges → AreBelow (length spec.columns) outs
 outs_among spec op may outs ranges e = subst (HasOutsAmong (length spec.columns)) e may.among.outs

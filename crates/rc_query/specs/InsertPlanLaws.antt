@@ -1,33 +1,11 @@
 -- Laws of the plans of inserts: over any good routes they are accepted.
 use Rattle.std.specs.Prelude.{◌≡◌, ℕ, ◌+◌, ◌-◌, ◌<◌, ◌≤◌, Bool, true, false, List, [], ◌∷◌, ◌++◌, ◌⊎◌, ◌&&◌, Option, None, Some, map, not, length, if◌then◌else◌}
-use Rattle.std.specs.List.{flat_map, list_any, range_with_len}
-use Rattle.std.specs.Ordering.{nat_cmp}
+use Rattle.rc_query.specs.Imports.{flat_map, list_any, range_with_len, nat_cmp, In, IsRising, gather, nat_order, get_or_in, in_gather, gather_in, in_has, has_in, in_filter, filter_in, rising_filter, map_in, in_map, has, Within, is_within, union, within_from_test, union_left, union_right, union_within, has-range, rising_range, in_range_bounds, in_range_below, list_any_in, Op, Insert, Exclusive, Spec, IsAdequate, all_columns, edge_at, target_columns, IsInRange, IsSetBelow, IsDepAmong, class_at, class_of, IsPlaced, Statement, Apply, Which, no_dep, dep_at, IsKeyBound, Covers, at_start, all_edges, IsGoodFrom, IsGoodRoute, good_known}
 use Rattle.std.proofs.Common.{inl, inr, refl, sym, subst, ◌∙◌, arith, leb, ltb}
 use Rattle.std.proofs.lemmas.Bool.{cases_Bool, and_from, not_from_false, false≢true}
 use Rattle.std.proofs.lemmas.Bool.Decides.{nat_tests}
 use Rattle.std.proofs.lemmas.List.{append_assoc}
-use Rattle.rc_tuple.specs.RisingSet.{In, IsRising, gather}
-use Rattle.rc_tuple.specs.RisingSetLaws.{nat_order, get_or_in, in_gather, gather_in, in_has, has_in, in_filter, filter_in, rising_filter, map_in, in_map}
-use Rattle.rc_tuple.specs.ColSet.{has, Within, is_within, union}
-use Rattle.rc_tuple.specs.ColSetLaws.{within_from_test, union_left, union_right, union_within, has-range, rising_range, in_range_bounds, in_range_below}
-use Rattle.rc_tuple.specs.RelationLaws.{list_any_in}
-use Rattle.rc_spec.specs.declared.items.Op.{Op}
-use Rattle.rc_spec.specs.declared.items.OpKind.TheVariants.{Insert}
-use Rattle.rc_spec.specs.declared.lock.Mode.TheVariants.{Exclusive}
-use Rattle.rc_spec.specs.declared.spec.Spec.{Spec}
-use Rattle.rc_spec.specs.Adequacy.{IsAdequate}
-use Rattle.rc_spec.specs.Calls.{all_columns}
-use Rattle.rc_spec.specs.Decomposition.{edge_at, target_columns}
-use Rattle.rc_spec.specs.InRange.{IsInRange, IsSetBelow, IsDepAmong}
-use Rattle.rc_spec.specs.Placement.{class_at, class_of, IsPlaced}
-use Rattle.rc_plan.specs.declared.statement.Statement.{Statement}
-use Rattle.rc_plan.specs.declared.statement.Statement.TheVariants.{Apply}
-use Rattle.rc_plan.specs.declared.statement.Which.{Which}
 use Rattle.rc_plan.specs.declared.statement.Which.TheVariants as which
-use Rattle.rc_plan.specs.Evaluation.{no_dep, dep_at}
-use Rattle.rc_plan.specs.PlanRules.{IsKeyBound, Covers, at_start}
-use Rattle.rc_route.specs.GoodRoutes.{all_edges, IsGoodFrom, IsGoodRoute}
-use Rattle.rc_route.specs.GoodRoutesLaws.{good_known}
 use Rattle.rc_query.specs.declared.probe.PlannedProbe.{PlannedProbe}
 use Rattle.rc_query.specs.Laws.{GivesGoodRoutes}
 use Rattle.rc_query.specs.Planned.{written_classes, locks_and_reads, ending, Routing, pattern_probe, dependency_probe, checked_deps, insert_probes, reads_unbound, which_under, probe_statements, insert_plan}

@@ -1,16 +1,6 @@
 -- Laws of planned plans, each named by the contract of a function.
 use Rattle.std.specs.Prelude.{◌≡◌, ℕ, List, length}
-use Rattle.rc_tuple.specs.ColSet.{Within}
-use Rattle.rc_spec.specs.declared.items.Op.{Op}
-use Rattle.rc_spec.specs.declared.spec.Spec.{Spec}
-use Rattle.rc_spec.specs.Acceptance.{IsSealed}
-use Rattle.rc_spec.specs.Adequacy.{IsAdequate}
-use Rattle.rc_spec.specs.Calls.{all_columns}
-use Rattle.rc_spec.specs.InRange.{IsInRange, IsOpAmong}
-use Rattle.rc_spec.specs.Placement.{IsPlaced}
-use Rattle.rc_plan.specs.declared.statement.Statement.{Statement}
-use Rattle.rc_plan.specs.PlanRules.{AreKnown, KeepsPlanRules}
-use Rattle.rc_route.specs.GoodRoutes.{IsGoodRoute}
+use Rattle.rc_query.specs.Imports.{Within, Op, Spec, IsSealed, IsAdequate, all_columns, IsInRange, IsOpAmong, IsPlaced, Statement, AreKnown, KeepsPlanRules, IsGoodRoute}
 use Rattle.rc_query.specs.Planned.{Routing, planned_by, IsPlanned}
 
 -- each need among the columns gets a good route

@@ -8,3 +8,4 @@ pub mod ProgressLaws
 pub mod SearchPlanLaws
 pub mod StatementsLaws
 pub mod UpdatePlanLaws
+pub mod Imports

@@ -1,15 +1,6 @@
 -- Laws of operations that may be planned, and of columns that they name.
 use Rattle.std.proofs.Common.{◌≡◌, ℕ, ◌<◌, ◌≤◌, List, [], ◌∷◌, length, inl, refl, subst, arith}
-use Rattle.std.specs.Ordering.{nat_cmp}
-use Rattle.rc_tuple.specs.RisingSet.{In, gather}
-use Rattle.rc_tuple.specs.RisingSetLaws.{nat_order, get_or_in, in_gather, gather_in}
-use Rattle.rc_tuple.specs.ColSet.{Within, union}
-use Rattle.rc_tuple.specs.ColSetLaws.{union_right, in_range_below}
-use Rattle.rc_spec.specs.declared.spec.Spec.{Spec}
-use Rattle.rc_spec.specs.Acceptance.{IsSealed}
-use Rattle.rc_spec.specs.Calls.{all_columns}
-use Rattle.rc_spec.specs.InRange.{AreBelow}
-use Rattle.rc_spec.specs.Placement.{op_at, no_op}
+use Rattle.rc_query.specs.Imports.{nat_cmp, In, gather, nat_order, get_or_in, in_gather, gather_in, Within, union, union_right, in_range_below, Spec, IsSealed, all_columns, AreBelow, op_at, no_op}
 use Rattle.rc_query.specs.Ops.{MayBePlanned}
 
 -- ---- the operations of an accepted specification

@@ -1,28 +1,7 @@
 -- The plan that the planning rules give an operation: which edges are read, how, and which classes are locked when. (PLDI 2011, query planning; PLDI 2012, locks in query plans.)
 use Rattle.std.specs.Prelude.{◌≡◌, ℕ, Bool, ◌&&◌, not, nat_le, List, [], ◌∷◌, ◌++◌, map, filter, length, reverse, if◌then◌else◌}
-use Rattle.std.specs.List.{flat_map, list_any, range_with_len}
-use Rattle.std.specs.Ordering.{nat_cmp}
-use Rattle.rc_tuple.specs.RisingSet.{gather}
-use Rattle.rc_tuple.specs.ColSet.{has, is_within, union}
-use Rattle.rc_spec.specs.declared.items.Op.{Op}
-use Rattle.rc_spec.specs.declared.items.OpKind.{OpKind}
-use Rattle.rc_spec.specs.declared.items.OpKind.TheVariants.{Query, Insert, Remove, Update}
-use Rattle.rc_spec.specs.declared.lock.Mode.{Mode}
-use Rattle.rc_spec.specs.declared.lock.Mode.TheVariants.{Shared, Exclusive}
-use Rattle.rc_spec.specs.declared.spec.Spec.{Spec}
-use Rattle.rc_spec.specs.Calls.{all_columns}
-use Rattle.rc_spec.specs.Decomposition.{edge_at, target_columns}
-use Rattle.rc_spec.specs.Placement.{class_at, class_of}
-use Rattle.rc_plan.specs.declared.statement.ReadMode.{ReadMode}
-use Rattle.rc_plan.specs.declared.statement.ReadMode.TheVariants.{Lookup, Scan}
-use Rattle.rc_plan.specs.declared.statement.Statement.{Statement}
-use Rattle.rc_plan.specs.declared.statement.Statement.TheVariants.{Lock, Probe, Read, CheckAbsent, CheckFound, CheckDep, Apply, Emit, Commit, Release}
-use Rattle.rc_plan.specs.declared.statement.Which.{Which}
+use Rattle.rc_query.specs.Imports.{flat_map, list_any, range_with_len, nat_cmp, gather, has, is_within, union, Op, OpKind, Query, Insert, Remove, Update, Mode, Shared, Exclusive, Spec, all_columns, edge_at, target_columns, class_at, class_of, ReadMode, Lookup, Scan, Statement, Lock, Probe, Read, CheckAbsent, CheckFound, CheckDep, Apply, Emit, Commit, Release, Which, dep_at, pattern_columns, all_edges, IsChosenRoute}
 use Rattle.rc_plan.specs.declared.statement.Which.TheVariants as which
-use Rattle.rc_plan.specs.Evaluation.{dep_at}
-use Rattle.rc_plan.specs.PlanRules.{pattern_columns}
-use Rattle.rc_route.specs.GoodRoutes.{all_edges}
-use Rattle.rc_route.specs.Paths.{IsChosenRoute}
 use Rattle.rc_query.specs.declared.probe.PlannedProbe.{PlannedProbe}
 
 -- ---- locks and reads of a route

@@ -1,26 +1,7 @@
 -- Laws of planned plans: they are accepted, and each operation has one.
 use Rattle.std.specs.Prelude.{◌≡◌, ℕ, ◌<◌, List, length}
-use Rattle.std.specs.Ordering.{nat_cmp}
+use Rattle.rc_query.specs.Imports.{nat_cmp, gather, nat_order, in_gather, get_or_in, Within, union, union_within, in_range_below, Op, OpKind, Query, Insert, Remove, Update, Spec, IsSealed, IsAdequate, all_columns, IsInRange, AreBelow, HasOutsAmong, IsPlaced, op_at, no_op, range_columns, Statement, IsPlanOf, at_start, chosen_routes_are_good, one_chosen_route, has_chosen_route, IsChosenRoute}
 use Rattle.std.proofs.Common.{refl, sym, ap, subst, ◌∙◌}
-use Rattle.rc_tuple.specs.RisingSet.{gather}
-use Rattle.rc_tuple.specs.RisingSetLaws.{nat_order, in_gather, get_or_in}
-use Rattle.rc_tuple.specs.ColSet.{Within, union}
-use Rattle.rc_tuple.specs.ColSetLaws.{union_within, in_range_below}
-use Rattle.rc_spec.specs.declared.items.Op.{Op}
-use Rattle.rc_spec.specs.declared.items.OpKind.{OpKind}
-use Rattle.rc_spec.specs.declared.items.OpKind.TheVariants.{Query, Insert, Remove, Update}
-use Rattle.rc_spec.specs.declared.spec.Spec.{Spec}
-use Rattle.rc_spec.specs.Acceptance.{IsSealed}
-use Rattle.rc_spec.specs.Adequacy.{IsAdequate}
-use Rattle.rc_spec.specs.Calls.{all_columns}
-use Rattle.rc_spec.specs.InRange.{IsInRange, AreBelow, HasOutsAmong}
-use Rattle.rc_spec.specs.Placement.{IsPlaced, op_at, no_op}
-use Rattle.rc_spec.specs.Ranges.{range_columns}
-use Rattle.rc_plan.specs.declared.statement.Statement.{Statement}
-use Rattle.rc_plan.specs.Compiled.{IsPlanOf}
-use Rattle.rc_plan.specs.PlanRules.{at_start}
-use Rattle.rc_route.specs.LeastPathLaws.{chosen_routes_are_good, one_chosen_route, has_chosen_route}
-use Rattle.rc_route.specs.Paths.{IsChosenRoute}
 use Rattle.rc_query.specs.InsertPlanLaws.{insert_fits}
 use Rattle.rc_query.specs.Laws.{GivesGoodRoutes, IsAcceptedFor, PlansOverGoodRoutesAreAccepted, PlannedPlansAreAccepted, HasPlannedPlan, OnePlannedPlan}
 use Rattle.rc_query.specs.Planned.{Routing, asked_columns, plan_for, planned_by, ChoosesRoutes, IsPlanned}

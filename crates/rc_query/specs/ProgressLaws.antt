@@ -1,35 +1,11 @@
 -- Laws of plans built from their parts: if the rest of a plan keeps K1 to K7 from what a part leaves, then part and rest keep them.
 use Rattle.std.specs.Prelude.{◌≡◌, ℕ, ◌+◌, ◌<◌, ◌≤◌, Bool, true, false, List, [], ◌∷◌, ◌++◌, ◌⊎◌, Option, None, map, reverse, not, length, nat_le, if◌then◌else◌}
-use Rattle.std.specs.declared.cmp.Ordering.TheVariants.{Less}
-use Rattle.std.specs.Ordering.{nat_cmp}
+use Rattle.rc_query.specs.Imports.{Less, nat_cmp, In, IsRising, AreDistinct, not_below_itself, nat_order, rising_gather, in_gather, gather_in, in_filter, filter_in, rising_filter, in_map, map_in, in_append, append_in_left, append_in_right, Within, is_within, union, within_from_test, in_union, union_left, union_right, in_range_bounds, in_range_below, Op, OpKind, Query, Insert, Remove, Update, Mode, Spec, IsAdequate, all_columns, GivesTuple, target_within, edge_at, target_columns, IsInRange, class_at, class_of, IsPlaced, class_of_known, Lookup, Scan, Statement, Read, Commit, Release, Which, Phase, Progress, after, IsLocked, HasProbed, IsKnown, AreKnown, HasLockMode, MayRead, IsComplete, KeepsK1, KeepsK2, KeepsK3, KeepsK4, KeepsK5, KeepsK6, KeepsK7, IsKeyBound, Covers, IsFindable, KeepsFrom, striping_in_target, all_edges, IsStep, IsGoodFrom}
 use Rattle.std.proofs.Common.{inl, inr, refl, sym, ap, subst, ◌∙◌, arith}
 use Rattle.std.proofs.lemmas.Bool.{leb-true, leb-false, cases_Bool, not_from_false, not-true}
 use Rattle.std.proofs.lemmas.Cmp.{ranked}
 use Rattle.std.proofs.lemmas.List.{append_assoc, reverse-append}
-use Rattle.rc_tuple.specs.RisingSet.{In, IsRising, AreDistinct}
-use Rattle.rc_tuple.specs.RisingSetLaws.{not_below_itself, nat_order, rising_gather, in_gather, gather_in, in_filter, filter_in, rising_filter, in_map, map_in, in_append, append_in_left, append_in_right}
-use Rattle.rc_tuple.specs.ColSet.{Within, is_within, union}
-use Rattle.rc_tuple.specs.ColSetLaws.{within_from_test, in_union, union_left, union_right, in_range_bounds, in_range_below}
-use Rattle.rc_spec.specs.declared.items.Op.{Op}
-use Rattle.rc_spec.specs.declared.items.OpKind.{OpKind}
-use Rattle.rc_spec.specs.declared.items.OpKind.TheVariants.{Query, Insert, Remove, Update}
-use Rattle.rc_spec.specs.declared.lock.Mode.{Mode}
-use Rattle.rc_spec.specs.declared.spec.Spec.{Spec}
-use Rattle.rc_spec.specs.Adequacy.{IsAdequate}
-use Rattle.rc_spec.specs.Calls.{all_columns, GivesTuple}
-use Rattle.rc_spec.specs.ContentsLaws.{target_within}
-use Rattle.rc_spec.specs.Decomposition.{edge_at, target_columns}
-use Rattle.rc_spec.specs.InRange.{IsInRange}
-use Rattle.rc_spec.specs.Placement.{class_at, class_of, IsPlaced}
-use Rattle.rc_spec.specs.PlacementLaws.{class_of_known}
-use Rattle.rc_plan.specs.declared.statement.ReadMode.TheVariants.{Lookup, Scan}
-use Rattle.rc_plan.specs.declared.statement.Statement.{Statement}
-use Rattle.rc_plan.specs.declared.statement.Statement.TheVariants.{Read, Commit, Release}
-use Rattle.rc_plan.specs.declared.statement.Which.{Which}
 use Rattle.rc_plan.specs.declared.statement.Which.TheVariants as which
-use Rattle.rc_plan.specs.PlanRules.{Phase, Progress, after, IsLocked, HasProbed, IsKnown, AreKnown, HasLockMode, MayRead, IsComplete, KeepsK1, KeepsK2, KeepsK3, KeepsK4, KeepsK5, KeepsK6, KeepsK7, IsKeyBound, Covers, IsFindable, KeepsFrom}
-use Rattle.rc_plan.specs.StripeLocksLaws.{striping_in_target}
-use Rattle.rc_route.specs.GoodRoutes.{all_edges, IsStep, IsGoodFrom}
 use Rattle.rc_query.specs.Planned.{classes_of_edges, written_classes, which_where, read_mode_where, locks, due, later, locks_and_reads, left_after, ending}
 
 -- ---- statements that keep all rules, with numbers of the specification

@@ -1,25 +1,8 @@
 -- Laws of the plans of queries and removes: over any good route they are accepted.
 use Rattle.std.specs.Prelude.{◌≡◌, ℕ, ◌<◌, false, List, [], ◌++◌, None, length}
-use Rattle.std.specs.Ordering.{nat_cmp}
+use Rattle.rc_query.specs.Imports.{nat_cmp, In, gather, nat_order, gather_in, union, union_left, union_right, Op, Query, Remove, Shared, Exclusive, Spec, IsAdequate, all_columns, IsInRange, class_of, IsPlaced, Apply, Emit, Which, at_start, all_edges, IsGoodRoute, good_known}
 use Rattle.std.proofs.Common.{inl, inr, refl, arith}
-use Rattle.rc_tuple.specs.RisingSet.{In, gather}
-use Rattle.rc_tuple.specs.RisingSetLaws.{nat_order, gather_in}
-use Rattle.rc_tuple.specs.ColSet.{union}
-use Rattle.rc_tuple.specs.ColSetLaws.{union_left, union_right}
-use Rattle.rc_spec.specs.declared.items.Op.{Op}
-use Rattle.rc_spec.specs.declared.items.OpKind.TheVariants.{Query, Remove}
-use Rattle.rc_spec.specs.declared.lock.Mode.TheVariants.{Shared, Exclusive}
-use Rattle.rc_spec.specs.declared.spec.Spec.{Spec}
-use Rattle.rc_spec.specs.Adequacy.{IsAdequate}
-use Rattle.rc_spec.specs.Calls.{all_columns}
-use Rattle.rc_spec.specs.InRange.{IsInRange}
-use Rattle.rc_spec.specs.Placement.{class_of, IsPlaced}
-use Rattle.rc_plan.specs.declared.statement.Statement.TheVariants.{Apply, Emit}
-use Rattle.rc_plan.specs.declared.statement.Which.{Which}
 use Rattle.rc_plan.specs.declared.statement.Which.TheVariants as which
-use Rattle.rc_plan.specs.PlanRules.{at_start}
-use Rattle.rc_route.specs.GoodRoutes.{all_edges, IsGoodRoute}
-use Rattle.rc_route.specs.GoodRoutesLaws.{good_known}
 use Rattle.rc_query.specs.Planned.{classes_of_edges, written_classes, locks, left_after, ending, asked_columns, query_plan, remove_plan}
 use Rattle.rc_query.specs.ProgressLaws.{AreAcceptedFrom, searching, with_locks, with_locks_old, with_locks_new, in_with_locks, locks_fit, left_after_later, locks_and_reads_fit, ending_fits, edge_in, in_edge, class_in, in_class, classes_known, no_locks, rising_classes, class_columns_known}
 

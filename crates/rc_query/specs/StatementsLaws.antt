@@ -1,23 +1,9 @@
 -- Parts of plans so far, with one more statement, and classes so far, with one more edge.
 use Rattle.std.proofs.Common.{◌≡◌, ℕ, ◌+◌, ◌<◌, ◌≤◌, ◌&&◌, not, leb, ltb, List, [], ◌∷◌, ◌++◌, Some, length, map, filter, reverse, take, drop, get_or, sym, ap, ◌∙◌, arith}
-use Rattle.std.specs.List.{slice_get, range_with_len}
-use Rattle.std.specs.Ordering.{nat_cmp}
+use Rattle.rc_query.specs.Imports.{slice_get, range_with_len, nat_cmp, put, gather, nat_order, gather_more, inter, minus, union, has-range, Mode, Spec, IsInRange, class_of, IsPlaced, class_of_known, Statement, Lock, Read, Release, Which, target_columns}
 use Rattle.std.proofs.lemmas.Bool.Decides.{nat_tests}
 use Rattle.std.proofs.lemmas.List.{append_assoc, take_more, drop_more, map-append, reverse-append}
 use Rattle.std.proofs.lemmas.Option.{get_or_from_slice_get, slice_get_within}
-use Rattle.rc_tuple.specs.RisingSet.{put, gather}
-use Rattle.rc_tuple.specs.RisingSetLaws.{nat_order, gather_more}
-use Rattle.rc_tuple.specs.ColSet.{inter, minus, union}
-use Rattle.rc_tuple.specs.ColSetLaws.{has-range}
-use Rattle.rc_spec.specs.declared.lock.Mode.{Mode}
-use Rattle.rc_spec.specs.declared.spec.Spec.{Spec}
-use Rattle.rc_spec.specs.InRange.{IsInRange}
-use Rattle.rc_spec.specs.Placement.{class_of, IsPlaced}
-use Rattle.rc_spec.specs.PlacementLaws.{class_of_known}
-use Rattle.rc_plan.specs.declared.statement.Statement.{Statement}
-use Rattle.rc_plan.specs.declared.statement.Statement.TheVariants.{Lock, Read, Release}
-use Rattle.rc_plan.specs.declared.statement.Which.{Which}
-use Rattle.rc_spec.specs.Decomposition.{target_columns}
 use Rattle.rc_query.specs.Planned.{classes_of_edges, locks, which_where, read_mode_where, due, later, locks_and_reads, left_after}
 
 -- ---- classes

@@ -1,29 +1,9 @@
 -- Laws of the plans of updates: over any good routes they are accepted.
 use Rattle.std.specs.Prelude.{◌≡◌, ℕ, ◌<◌, ◌≤◌, Bool, true, false, List, [], ◌∷◌, ◌++◌, Option, None, Some, map, length, if◌then◌else◌}
-use Rattle.std.specs.List.{flat_map}
-use Rattle.std.specs.Ordering.{nat_cmp}
+use Rattle.rc_query.specs.Imports.{flat_map, nat_cmp, In, gather, nat_order, in_gather, gather_in, map_in, in_map, Within, is_within, union, within_from_test, union_left, union_right, union_within, Op, Update, Exclusive, Spec, IsAdequate, all_columns, IsInRange, IsDepAmong, class_at, class_of, IsPlaced, Statement, Apply, Which, dep_at, IsKeyBound, at_start, all_edges, IsGoodRoute, good_known}
 use Rattle.std.proofs.Common.{inl, inr, refl, sym, subst}
 use Rattle.std.proofs.lemmas.List.{append_assoc}
-use Rattle.rc_tuple.specs.RisingSet.{In, gather}
-use Rattle.rc_tuple.specs.RisingSetLaws.{nat_order, in_gather, gather_in, map_in, in_map}
-use Rattle.rc_tuple.specs.ColSet.{Within, is_within, union}
-use Rattle.rc_tuple.specs.ColSetLaws.{within_from_test, union_left, union_right, union_within}
-use Rattle.rc_spec.specs.declared.items.Op.{Op}
-use Rattle.rc_spec.specs.declared.items.OpKind.TheVariants.{Update}
-use Rattle.rc_spec.specs.declared.lock.Mode.TheVariants.{Exclusive}
-use Rattle.rc_spec.specs.declared.spec.Spec.{Spec}
-use Rattle.rc_spec.specs.Adequacy.{IsAdequate}
-use Rattle.rc_spec.specs.Calls.{all_columns}
-use Rattle.rc_spec.specs.InRange.{IsInRange, IsDepAmong}
-use Rattle.rc_spec.specs.Placement.{class_at, class_of, IsPlaced}
-use Rattle.rc_plan.specs.declared.statement.Statement.{Statement}
-use Rattle.rc_plan.specs.declared.statement.Statement.TheVariants.{Apply}
-use Rattle.rc_plan.specs.declared.statement.Which.{Which}
 use Rattle.rc_plan.specs.declared.statement.Which.TheVariants as which
-use Rattle.rc_plan.specs.Evaluation.{dep_at}
-use Rattle.rc_plan.specs.PlanRules.{IsKeyBound, at_start}
-use Rattle.rc_route.specs.GoodRoutes.{all_edges, IsGoodRoute}
-use Rattle.rc_route.specs.GoodRoutesLaws.{good_known}
 use Rattle.rc_query.specs.declared.probe.PlannedProbe.{PlannedProbe}
 use Rattle.rc_query.specs.Laws.{GivesGoodRoutes}
 use Rattle.rc_query.specs.InsertPlanLaws.{CoverReads, probe_reads_fit, dep_known, set_known, Checks, checks_step, in_checked, checked_in, no_checks, keyed_covers, all_bound}

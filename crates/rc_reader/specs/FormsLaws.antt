@@ -1,11 +1,7 @@
 -- What the forms of lines see to.
 use Rattle.std.proofs.Common.{◌≡◌, ℕ, ◌<◌, ◌≤◌, Bool, true, false, cond, ltb, List, [], ◌∷◌, length, Option, Some, None, refl, sym, ap, subst, arith, lit≤, codes}
-use Rattle.std.specs.Prelude.{unwrap_or}
-use Rattle.std.specs.Option.{option_map}
-use Rattle.std.specs.Str.{bytes_eq}
+use Rattle.rc_reader.specs.Imports.{unwrap_or, option_map, bytes_eq, is_number, number_of, EdgeKind}
 use Rattle.std.proofs.lemmas.Bool.Decides.{nat_tests}
-use Rattle.rc_text.specs.Numbers.{is_number, number_of}
-use Rattle.rc_spec.specs.declared.items.EdgeKind.{EdgeKind}
 use Rattle.rc_reader.specs.declared.forms.Keyword.{Keyword}
 use Rattle.rc_reader.specs.declared.forms.Keyword.TheVariants as keyword
 use Rattle.rc_reader.specs.declared.version.Version.{Version}

@@ -1,8 +1,6 @@
 -- A line with its words looked up, as the code keeps it.
 use Rattle.std.specs.Prelude.{Bool, false, ◌||◌, List, [], ◌∷◌, ℕ}
-use Rattle.rc_spec.specs.declared.items.OpKind.{OpKind}
-use Rattle.rc_spec.specs.declared.spec.Spec.{Spec}
-use Rattle.rc_spec.specs.Names.{op_names}
+use Rattle.rc_reader.specs.Imports.{OpKind, Spec, op_names}
 use Rattle.rc_reader.specs.declared.found.FoundLine.{FoundLine}
 use Rattle.rc_reader.specs.declared.found.Addition.TheVariants as additions
 use Rattle.rc_reader.specs.declared.refusal.LineRule.{LineRule}

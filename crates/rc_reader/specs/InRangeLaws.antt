@@ -1,23 +1,9 @@
 -- A line that breaks no rule leaves the specification in range.
 use Rattle.std.proofs.Common.{◌≡◌, ℕ, ◌<◌, ◌≤◌, false, eqb, ◌||◌, List, [], ◌∷◌, ◌++◌, length, Option, Some, None, refl, arith, lit≤}
-use Rattle.std.specs.Prelude.{is_none, unwrap_or}
-use Rattle.std.specs.List.{list_any}
-use Rattle.std.specs.Ordering.{nat_cmp}
+use Rattle.rc_reader.specs.Imports.{is_none, unwrap_or, list_any, nat_cmp, Dep, nat_order, rising_gather, in_gather, Column, Node, Edge, Class, Place, Op, Spec, empty, column_names, node_names, edge_names, class_names, AreBelow, IsSetBelow, IsDepAmong, IsEdgeAmong, IsPlaceAmong, IsOpAmong, IsInRange}
 use Rattle.std.proofs.lemmas.Bool.{leb-false, or_parts, not-false, eqb-true}
 use Rattle.std.proofs.lemmas.List.{length_push, length-map}
-use Rattle.rc_tuple.specs.declared.dep.Dep.{Dep}
-use Rattle.rc_tuple.specs.RisingSetLaws.{nat_order, rising_gather, in_gather}
-use Rattle.rc_spec.specs.declared.items.Column.{Column}
-use Rattle.rc_spec.specs.declared.items.Node.{Node}
-use Rattle.rc_spec.specs.declared.items.Edge.{Edge}
-use Rattle.rc_spec.specs.declared.items.Class.{Class}
-use Rattle.rc_spec.specs.declared.items.Place.{Place}
-use Rattle.rc_spec.specs.declared.items.Op.{Op}
 use Rattle.rc_spec.specs.declared.items.OpKind.TheVariants as kinds
-use Rattle.rc_spec.specs.declared.spec.Spec.{Spec}
-use Rattle.rc_spec.specs.Spec.{empty}
-use Rattle.rc_spec.specs.Names.{column_names, node_names, edge_names, class_names}
-use Rattle.rc_spec.specs.InRange.{AreBelow, IsSetBelow, IsDepAmong, IsEdgeAmong, IsPlaceAmong, IsOpAmong, IsInRange}
 use Rattle.rc_reader.specs.Names.{number_among, is_unknown}
 use Rattle.rc_reader.specs.Forms.{column_line, dependency_line, node_line, edge_line, lock_line, place_line, query_line, insert_line, remove_line, update_line}
 use Rattle.rc_reader.specs.declared.sections.LineKind.{LineKind}

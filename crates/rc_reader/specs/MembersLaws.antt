@@ -1,10 +1,7 @@
 -- Lists by their members: one element more, none, and numbers that stand once.
 use Rattle.std.proofs.Common.{◌≡◌, ℕ, ◌<◌, ◌||◌, not, eqb, false, List, [], ◌∷◌, ◌++◌, length, refl, sym, ap, ◌∙◌, subst, inl, inr, arith}
 use Rattle.std.proofs.lemmas.Bool.{or_parts, cases_Bool, false≢true, not-false, eqb-true}
-use Rattle.std.specs.Ordering.{nat_cmp}
-use Rattle.rc_tuple.specs.RisingSet.{In, AreDistinct, gather}
-use Rattle.rc_tuple.specs.RisingSetLaws.{in_append, append_in_right, in_filter, filter_in, gather_in, in_gather, in_has, has_in, put_new, nat_order}
-use Rattle.rc_tuple.specs.ColSet.{has, inter}
+use Rattle.rc_reader.specs.Imports.{nat_cmp, In, AreDistinct, gather, in_append, append_in_right, in_filter, filter_in, gather_in, in_gather, in_has, has_in, put_new, nat_order, has, inter}
 use Rattle.rc_reader.specs.Names.{has_repeat}
 
 -- what holds of each element and of one more

@@ -1,14 +1,9 @@
 -- The items that names name.
 use Rattle.std.proofs.Common.{◌≡◌, ℕ, suc, ◌+◌, ◌-◌, ◌<◌, ◌≤◌, true, false, not, cond, List, [], ◌∷◌, ◌++◌, length, map, Option, Some, None, refl, sym, ap, subst, ◌∙◌, ◌⊎◌, inl, inr, arith}
-use Rattle.std.specs.Prelude.{is_some, is_none}
-use Rattle.std.specs.List.{slice_get, cons_option, position_from}
-use Rattle.std.specs.Str.{bytes_eq}
+use Rattle.rc_reader.specs.Imports.{is_some, is_none, slice_get, cons_option, position_from, bytes_eq, In, append_in_left, is_name, AreNames}
 use Rattle.std.proofs.lemmas.Bool.{or_parts, not-false}
 use Rattle.std.proofs.lemmas.List.{map_push}
 use Rattle.std.proofs.lemmas.Slice.Eq.{bytes_eq-Decides}
-use Rattle.rc_tuple.specs.RisingSet.{In}
-use Rattle.rc_tuple.specs.RisingSetLaws.{append_in_left}
-use Rattle.rc_spec.specs.Names.{is_name, AreNames}
 use Rattle.rc_reader.specs.Names.{number_among, is_unknown, is_refused_name, numbers_of, has_unknown}
 use Rattle.rc_reader.specs.MembersLaws.{each_push, distinct_push}
 

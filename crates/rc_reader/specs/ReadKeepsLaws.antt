@@ -2,10 +2,7 @@
 use Rattle.std.proofs.Common.{◌≡◌, ℕ, List, [], ◌∷◌, Option, Some, None, Result, Ok, Err, refl, subst}
 use Rattle.rc_text.specs.Language as language
 use Rattle.rc_text.specs.LanguageLaws as laws
-use Rattle.rc_text.specs.Lines.{ContentLine, start_of, content_from, past_end_of}
-use Rattle.rc_spec.specs.InRange.{HasColumnAndNode}
-use Rattle.rc_spec.specs.Spec.{empty}
-use Rattle.rc_spec.specs.declared.spec.Spec.{Spec}
+use Rattle.rc_reader.specs.Imports.{ContentLine, start_of, content_from, past_end_of, HasColumnAndNode, empty, Spec}
 use Rattle.rc_reader.specs.declared.version.Version.{Version}
 use Rattle.rc_reader.specs.FirstBroken.{AreTaken}
 use Rattle.rc_reader.specs.Grammar.{Reading, Broken, spec_language, reading_from, header_version, reading_behind, reading_all, spec_reading, nothing_after, alone, spec_of}

@@ -2,9 +2,7 @@
 use Rattle.std.proofs.Common.{◌≡◌, ℕ, Bool, true, false, List, [], ◌∷◌, Option, Some, None, Result, Ok, refl, subst, inl, inr}
 use Rattle.std.specs.Prelude.{◌↔◌}
 use Rattle.rc_text.specs.LanguageLaws as laws
-use Rattle.rc_text.specs.Lines.{ContentLine, start_of, content_from, past_end_of}
-use Rattle.rc_spec.specs.declared.spec.Spec.{Spec}
-use Rattle.rc_spec.specs.Spec.{empty}
+use Rattle.rc_reader.specs.Imports.{ContentLine, start_of, content_from, past_end_of, Spec, empty}
 use Rattle.rc_reader.specs.declared.version.Version.{Version}
 use Rattle.rc_reader.specs.Grammar.{Reading, Broken, after_bytes, spec_language, reading_from, header_version, reading_behind, reading_all, spec_reading}
 use Rattle.rc_reader.specs.FirstBroken.{ReachesEnd, LinesMean, HeadedMean, ContentMeans, TextMeans}

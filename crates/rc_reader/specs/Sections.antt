@@ -1,9 +1,7 @@
 -- The sections of a specification, as a table: its order and its limits, told by how many lines of each kind stand
 -- before a line.
 use Rattle.std.specs.Prelude.{ℕ, Bool, true, false, not, ◌||◌, ◌==◌, ◌+◌, nat_le, List, [], ◌∷◌, length, drop, Option}
-use Rattle.std.specs.List.{list_any, position_or_len, slice_get}
-use Rattle.std.specs.Option.{option_map, option_map_or}
-use Rattle.rc_spec.specs.declared.spec.Spec.{Spec}
+use Rattle.rc_reader.specs.Imports.{list_any, position_or_len, slice_get, option_map, option_map_or, Spec}
 use Rattle.rc_reader.specs.declared.sections.LineKind.{LineKind}
 use Rattle.rc_reader.specs.declared.sections.LineKind.TheVariants as kinds
 use Rattle.rc_reader.specs.declared.sections.Limit.{Limit}

@@ -1,11 +1,6 @@
 -- What a text's specification keeps besides its ranges and its names.
 use Rattle.std.specs.Prelude.{◌≡◌, ℕ, ◌≤◌, List, [], length}
-use Rattle.rc_tuple.specs.RisingSet.{In}
-use Rattle.rc_spec.specs.declared.items.Class.{Class}
-use Rattle.rc_spec.specs.declared.items.Op.{Op}
-use Rattle.rc_spec.specs.declared.items.OpKind.{OpKind}
-use Rattle.rc_spec.specs.declared.items.OpKind.TheVariants.{Query, Insert, Remove, Update}
-use Rattle.rc_spec.specs.declared.spec.Spec.{Spec}
+use Rattle.rc_reader.specs.Imports.{In, Class, Op, OpKind, Query, Insert, Remove, Update, Spec}
 use Rattle.rc_reader.specs.declared.version.Version.{Version}
 use Rattle.rc_reader.specs.declared.version.Version.TheVariants.{One, Two}
 use Rattle.rc_reader.specs.Versions.{version_number, most_columns}

@@ -1,22 +1,15 @@
 -- A line that breaks no rule keeps the limits of a text, and `end` stands behind a column and a node.
 use Rattle.std.proofs.Common.{◌≡◌, ℕ, ◌<◌, ◌≤◌, Bool, true, false, eqb, List, [], ◌∷◌, ◌++◌, length, Ok, refl, ap, ◌∙◌, subst, arith, lit≤}
-use Rattle.std.specs.Prelude.{unwrap_or}
+use Rattle.rc_reader.specs.Imports.{unwrap_or, Column, Class, Op, Spec, empty, OpKind, HasColumnAndNode}
 use Rattle.std.proofs.lemmas.Bool.{leb-false, or_parts, eqb-false, false≢true}
 use Rattle.std.proofs.lemmas.List.{length_push}
-use Rattle.rc_spec.specs.declared.items.Column.{Column}
-use Rattle.rc_spec.specs.declared.items.Class.{Class}
-use Rattle.rc_spec.specs.declared.items.Op.{Op}
 use Rattle.rc_spec.specs.declared.items.OpKind.TheVariants as kinds
-use Rattle.rc_spec.specs.declared.spec.Spec.{Spec}
-use Rattle.rc_spec.specs.Spec.{empty}
-use Rattle.rc_spec.specs.declared.items.OpKind.{OpKind}
 use Rattle.rc_reader.specs.declared.version.Version.{Version}
 use Rattle.rc_reader.specs.declared.version.Version.TheVariants.{One, Two}
 use Rattle.rc_reader.specs.Versions.{most_columns}
 use Rattle.rc_reader.specs.Forms.{FormText, column_line, lock_line, query_line, insert_line, remove_line, update_line, end_line}
 use Rattle.rc_reader.specs.Rules.{columns_named, set_named, operation_of, with_line}
 use Rattle.rc_reader.specs.Grammar.{is_end, after_bytes}
-use Rattle.rc_spec.specs.InRange.{HasColumnAndNode}
 use Rattle.rc_reader.specs.TextLimits.{KeepsTextLimits, KeepsRanges, IsKindOf, KeepsVersion}
 use Rattle.rc_reader.specs.InRangeLaws.{most_columns-le}
 use Rattle.rc_reader.specs.MembersLaws.{each_push}

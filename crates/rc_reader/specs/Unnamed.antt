@@ -1,12 +1,7 @@
 -- Operations that lines give without a name: each line has the form of an `op` line behind `op NAME`.
 use Rattle.std.specs.Prelude.{ℕ, ◌||◌, if◌then◌else◌, List, [], ◌++◌, length, Option, Some, None, Result, Ok, Err}
-use Rattle.rc_tuple.specs.RisingSet.{AreDistinct}
-use Rattle.rc_spec.specs.InRange.{IsOpAmong}
-use Rattle.rc_spec.specs.Ranges.{range_columns}
-use Rattle.rc_spec.specs.declared.items.Op.{Op}
-use Rattle.rc_spec.specs.declared.items.OpKind.{OpKind}
+use Rattle.rc_reader.specs.Imports.{AreDistinct, IsOpAmong, range_columns, Op, OpKind, Spec}
 use Rattle.rc_spec.specs.declared.items.OpKind.TheVariants as kinds
-use Rattle.rc_spec.specs.declared.spec.Spec.{Spec}
 use Rattle.rc_reader.specs.declared.refusal.LineRule.{LineRule}
 use Rattle.rc_reader.specs.declared.refusal.LineRule.TheVariants.{S2, S3, S4}
 use Rattle.rc_reader.specs.declared.unnamed.FoundOperation.{FoundOperation}

@@ -1,8 +1,7 @@
 -- An operation that a line gives without a name is over the specification's columns.
 use Rattle.std.proofs.Common.{◌≡◌, ℕ, Bool, true, false, cond, List, [], Option, Some, None, Result, Ok, Err, refl, ap, ◌∙◌, subst}
-use Rattle.rc_spec.specs.declared.items.Op.{Op}
+use Rattle.rc_reader.specs.Imports.{Op, Spec}
 use Rattle.rc_spec.specs.declared.items.OpKind.TheVariants as kinds
-use Rattle.rc_spec.specs.declared.spec.Spec.{Spec}
 use Rattle.rc_reader.specs.declared.refusal.LineRule.{LineRule}
 use Rattle.rc_reader.specs.declared.refusal.LineRule.TheVariants.{S3, S4}
 use Rattle.rc_reader.specs.declared.unnamed.FoundOperation.{FoundOperation}

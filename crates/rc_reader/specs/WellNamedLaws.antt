@@ -1,20 +1,9 @@
 -- A line that breaks no rule leaves the specification well named.
 use Rattle.std.proofs.Common.{◌≡◌, ℕ, false, ◌||◌, List, [], ◌∷◌, ◌++◌, sym, subst}
 use Rattle.std.proofs.lemmas.List.{append-nil}
-use Rattle.std.specs.Prelude.{unwrap_or}
+use Rattle.rc_reader.specs.Imports.{unwrap_or, AreDistinct, Column, Node, Edge, Class, Op, OpKind, Spec, empty, range_columns, node_names, edge_names, class_names, op_names, AreNames, IsWellNamed}
 use Rattle.std.proofs.lemmas.Bool.{or_parts}
-use Rattle.rc_tuple.specs.RisingSet.{AreDistinct}
-use Rattle.rc_spec.specs.declared.items.Column.{Column}
-use Rattle.rc_spec.specs.declared.items.Node.{Node}
-use Rattle.rc_spec.specs.declared.items.Edge.{Edge}
-use Rattle.rc_spec.specs.declared.items.Class.{Class}
-use Rattle.rc_spec.specs.declared.items.Op.{Op}
-use Rattle.rc_spec.specs.declared.items.OpKind.{OpKind}
 use Rattle.rc_spec.specs.declared.items.OpKind.TheVariants as kinds
-use Rattle.rc_spec.specs.declared.spec.Spec.{Spec}
-use Rattle.rc_spec.specs.Spec.{empty}
-use Rattle.rc_spec.specs.Ranges.{range_columns}
-use Rattle.rc_spec.specs.Names.{node_names, edge_names, class_names, op_names, AreNames, IsWellNamed}
 use Rattle.rc_reader.specs.Names.{is_refused_name}
 use Rattle.rc_reader.specs.Forms.{column_line, node_line, edge_line, lock_line, query_line, insert_line, remove_line, update_line}
 use Rattle.rc_reader.specs.Rules.{repeats, share, repeat_together, number_named, columns_named, set_named, operation_of}

@@ -1,28 +1,6 @@
 -- What a change of the list of tuples does, in the words of the plain step.
 use Rattle.std.proofs.Common.{◌≡◌, ℕ, zero, suc, ◌+◌, ◌<◌, Bool, true, false, cond, not, ltb, List, [], ◌∷◌, length, Option, Some, None, drop, get_or, position, refl, sym, ap, ◌∙◌, inl, inr, subst, arith}
-use Rattle.std.specs.Prelude.{remove}
-use Rattle.std.specs.List.{list_any, filter, position_or_len}
-use Rattle.std.proofs.lemmas.Bool.{cond_both, cond-true, cond-false, ltb-true, ltb-false, not-false}
-use Rattle.std.proofs.lemmas.List.{drop_all, drop_more}
-use Rattle.std.proofs.lemmas.List.Sums.{prefix_len_stops}
-use Rattle.std.specs.declared.cmp.Ordering.TheVariants.{Less}
-use Rattle.std.specs.Ordering.{nat_cmp}
-use Rattle.rc_tuple.specs.RisingSet.{In, IsRising, put, gather}
-use Rattle.rc_tuple.specs.RisingSetLaws.{each_in, get_or_in, put_old, rising_put, rising_filter, in_filter, not_below_itself}
-use Rattle.rc_tuple.specs.ColSet.{has}
-use Rattle.rc_tuple.specs.ColSetLaws.{has-gather}
-use Rattle.rc_tuple.specs.Tuple.{Pairs, agree_on, cols_of, tuple_cmp, tuple_eq}
-use Rattle.rc_tuple.specs.TupleLaws.{tuple_order, same_from_test, test_from_same}
-use Rattle.rc_tuple.specs.RelationLaws.{agree_on-same, satisfies_fewer}
-use Rattle.rc_tuple.specs.Relation.{Satisfies}
-use Rattle.rc_tuple.specs.declared.dep.Dep.{Dep}
-use Rattle.rc_spec.specs.declared.items.OpKind.TheVariants.{Remove}
-use Rattle.rc_spec.specs.declared.call.Reply.TheVariants.{Removed}
-use Rattle.rc_spec.specs.Plain.{Outcome, first_broken_dependency, removed_first, updated_first, updated_unless, plain_by}
-use Rattle.rc_spec.specs.PlainLaws.{satisfies_from_none, rising_after, in_after_remove}
-use Rattle.rc_rel.specs.KnownDeps.{IsKnownToSatisfy}
-use Rattle.rc_rel.specs.Match.{IsFirst}
-use Rattle.rc_rel.specs.Over.{AreOver}
+use Rattle.rc_rel.proofs.Imports.{remove, list_any, filter, position_or_len, cond_both, cond-true, cond-false, ltb-true, ltb-false, not-false, drop_all, drop_more, prefix_len_stops, Less, nat_cmp, In, IsRising, put, gather, each_in, get_or_in, put_old, rising_put, rising_filter, in_filter, not_below_itself, has, has-gather, Pairs, agree_on, cols_of, tuple_cmp, tuple_eq, tuple_order, same_from_test, test_from_same, agree_on-same, satisfies_fewer, Satisfies, Dep, Remove, Removed, Outcome, first_broken_dependency, removed_first, updated_first, updated_unless, plain_by, satisfies_from_none, rising_after, in_after_remove, IsKnownToSatisfy, IsFirst, AreOver}
 
 -- one of the tuples over some columns, by its place
 pub over_at : (columns : List ℕ) (tuples : List Pairs) (k : ℕ) (t : Pairs) → AreOver columns tuples → k < length tuples → t ≡ get_or tuples k t → columns ≡ cols_of t

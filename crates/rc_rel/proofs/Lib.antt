@@ -1,3 +1,4 @@
 pub mod RowLemmas
 pub mod ChangeLemmas
 pub mod RunLemmas
+mod Imports

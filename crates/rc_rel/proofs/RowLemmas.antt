@@ -1,12 +1,6 @@
 -- Rows put into a set of rows.
 use Rattle.std.proofs.Common.{◌≡◌, ℕ, ◌+◌, ◌<◌, Bool, true, false, cond, List, [], ◌∷◌, ◌++◌, length, map, take, get_or, sym, ap, ◌∙◌}
-use Rattle.std.specs.List.{filter}
-use Rattle.std.proofs.lemmas.List.{map-append, append-nil}
-use Rattle.std.proofs.lemmas.List.Elements.{filter_more}
-use Rattle.rc_tuple.specs.RisingSet.{put, gather}
-use Rattle.rc_tuple.specs.RisingSetLaws.{gather_more, number_lists_order}
-use Rattle.rc_tuple.specs.Tuple.{Pairs, pick}
-use Rattle.rc_spec.specs.Plain.{row_cmp, rows_of}
+use Rattle.rc_rel.proofs.Imports.{filter, map-append, append-nil, filter_more, put, gather, gather_more, number_lists_order, Pairs, pick, row_cmp, rows_of}
 
 -- one more tuple, which matches or not
 rows_cond : (outs : List ℕ) (front : List Pairs) (t : Pairs) (b : Bool) → rows_of outs (front ++ cond b (t ∷ []) []) ≡ cond b (put row_cmp (pick outs t) (rows_of outs front)) (rows_of outs front)

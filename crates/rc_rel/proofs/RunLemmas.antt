@@ -1,20 +1,6 @@
 -- What a step's answer says of the relation after it.
 use Rattle.std.proofs.Common.{◌≡◌, ℕ, ◌<◌, ◌≤◌, List, length, Result, Ok, Err, sym, ap, ◌∙◌, subst, arith}
-use Rattle.std.specs.Result.{IfOk, OnErr}
-use Rattle.rc_tuple.specs.RisingSet.{In}
-use Rattle.rc_tuple.specs.RisingSetLaws.{each_in, in_each}
-use Rattle.rc_tuple.specs.Tuple.{Pairs, cols_of}
-use Rattle.rc_tuple.specs.declared.memory.Memory.{Memory}
-use Rattle.rc_spec.specs.declared.call.Reply.{Reply}
-use Rattle.rc_spec.specs.declared.call.Call.{Call}
-use Rattle.rc_spec.specs.declared.items.Op.{Op}
-use Rattle.rc_spec.specs.declared.spec.Spec.{Spec}
-use Rattle.rc_spec.specs.Calls.{all_columns, FitsAt, GivesTuple}
-use Rattle.rc_spec.specs.CallsLaws.{tuple_columns}
-use Rattle.rc_spec.specs.InRange.{IsInRange, AreBelow}
-use Rattle.rc_spec.specs.Plain.{Outcome, plain_by}
-use Rattle.rc_spec.specs.PlainLaws.{each_after}
-use Rattle.rc_rel.specs.Over.{AreOver}
+use Rattle.rc_rel.proofs.Imports.{IfOk, OnErr, In, each_in, in_each, Pairs, cols_of, Memory, Reply, Call, Op, Spec, all_columns, FitsAt, GivesTuple, tuple_columns, IsInRange, AreBelow, Outcome, plain_by, each_after, AreOver}
 
 -- what holds of the relation of the outcome and of the relation before holds of the relation after
 pub holds_after : (P : List Pairs → Type 0) (result : Result Reply Memory) (o : Outcome) (new old : List Pairs)

@@ -1,10 +1,6 @@
 -- A specification with further operations behind its own: each history of the one is a history of the other.
 use Rattle.std.specs.Prelude.{◌≡◌, ℕ, ◌++◌, List}
-use Rattle.rc_tuple.specs.Tuple.{Pairs}
-use Rattle.rc_spec.specs.declared.items.Op.{Op}
-use Rattle.rc_spec.specs.declared.spec.Spec.{Spec}
-use Rattle.rc_spec.specs.Fragments.{fragment_of}
-use Rattle.rc_spec.specs.Stripes.{stripe_total}
+use Rattle.rc_rel.specs.Imports.{Pairs, Op, Spec, fragment_of, stripe_total}
 use Rattle.rc_rel.specs.declared.entry.Entry.{Entry}
 use Rattle.rc_rel.specs.History.{AllFit, IsLegal, replay}
 

@@ -1,16 +1,6 @@
 -- Histories stay where a specification gets further operations.
 use Rattle.std.proofs.Common.{◌≡◌, ℕ, zero, suc, List, [], ◌∷◌, ◌++◌, Some, refl, sym, ap, subst, ◌∙◌}
-use Rattle.std.specs.List.{slice_get}
-use Rattle.std.specs.Ordering.{nat_cmp}
-use Rattle.rc_tuple.specs.RisingSet.{gather}
-use Rattle.rc_tuple.specs.Tuple.{Pairs}
-use Rattle.rc_spec.specs.declared.call.Call.{Call}
-use Rattle.rc_spec.specs.declared.items.Op.{Op}
-use Rattle.rc_spec.specs.declared.spec.Spec.{Spec}
-use Rattle.rc_spec.specs.Calls.{Fits, FitsAt, value_columns}
-use Rattle.rc_spec.specs.declared.items.OpKind.{OpKind}
-use Rattle.rc_spec.specs.declared.items.OpKind.TheVariants.{Query, Insert, Remove, Update}
-use Rattle.rc_spec.specs.Plain.{Outcome, plain, plain_at}
+use Rattle.rc_rel.specs.Imports.{slice_get, nat_cmp, gather, Pairs, Call, Op, Spec, Fits, FitsAt, value_columns, OpKind, Query, Insert, Remove, Update, Outcome, plain, plain_at}
 use Rattle.rc_rel.specs.declared.entry.Step.{Step}
 use Rattle.rc_rel.specs.declared.entry.Entry.{Entry}
 use Rattle.rc_rel.specs.History.{AllFit, AreLegalFrom, StepsFit, after_steps, steps_of}

@@ -1,12 +1,6 @@
 -- Histories of calls on the plain relation.
 use Rattle.std.specs.Prelude.{◌≡◌, ℕ, ◌+◌, ◌==◌, List, [], ◌∷◌, ◌++◌, filter, take, map, length, if◌then◌else◌}
-use Rattle.std.specs.List.{range_with_len, flat_map, AllByRecursion}
-use Rattle.rc_tuple.specs.Tuple.{Pairs}
-use Rattle.rc_spec.specs.declared.spec.Spec.{Spec}
-use Rattle.rc_spec.specs.declared.call.Call.{Call}
-use Rattle.rc_spec.specs.declared.call.Reply.{Reply}
-use Rattle.rc_spec.specs.Calls.{Fits}
-use Rattle.rc_spec.specs.Plain.{plain}
+use Rattle.rc_rel.specs.Imports.{range_with_len, flat_map, AllByRecursion, Pairs, Spec, Call, Reply, Fits, plain}
 use Rattle.rc_rel.specs.declared.entry.Step.{Step}
 use Rattle.rc_rel.specs.declared.entry.Entry.{Entry}
 use Rattle.rc_rel.specs.declared.entry.Placed.{Placed}

@@ -1,18 +1,7 @@
 -- Laws of histories.
 use Rattle.std.proofs.Common.{◌≡◌, ℕ, ◌+◌, ◌<◌, List, [], ◌∷◌, ◌++◌, length, map, drop, get_or, refl, sym, ap, ◌∙◌, inl, inr, subst, arith}
-use Rattle.std.specs.List.{AllByRecursion}
+use Rattle.rc_rel.specs.Imports.{AllByRecursion, In, Pairs, Satisfies, IsRelation, satisfies_none, Spec, Call, Reply, all_columns, Fits, plain_keeps_relation, plain, plain_satisfies}
 use Rattle.std.proofs.lemmas.List.{drop_more, append_assoc}
-use Rattle.rc_tuple.specs.RisingSet.{In}
-use Rattle.rc_tuple.specs.Tuple.{Pairs}
-use Rattle.rc_tuple.specs.Relation.{Satisfies, IsRelation}
-use Rattle.rc_tuple.specs.RelationLaws.{satisfies_none}
-use Rattle.rc_spec.specs.declared.spec.Spec.{Spec}
-use Rattle.rc_spec.specs.declared.call.Call.{Call}
-use Rattle.rc_spec.specs.declared.call.Reply.{Reply}
-use Rattle.rc_spec.specs.Calls.{all_columns, Fits}
-use Rattle.rc_spec.specs.CallsLaws.{plain_keeps_relation}
-use Rattle.rc_spec.specs.Plain.{plain}
-use Rattle.rc_spec.specs.PlainLaws.{plain_satisfies}
 use Rattle.rc_rel.specs.declared.entry.Step.{Step}
 use Rattle.rc_rel.specs.declared.entry.Entry.{Entry}
 use Rattle.rc_rel.specs.History.{steps_of, AreLegalFrom, after_steps, replay, states_from, states, StepsFit, AllFit, with_replies}

@@ -1,9 +1,5 @@
 -- What a plain relation keeps.
-use Rattle.std.specs.Prelude.{List}
-use Rattle.rc_tuple.specs.RisingSet.{IsRising}
-use Rattle.rc_tuple.specs.Tuple.{Pairs, tuple_cmp}
-use Rattle.rc_tuple.specs.Relation.{Satisfies}
-use Rattle.rc_tuple.specs.declared.dep.Dep.{Dep}
+use Rattle.rc_rel.specs.Imports.{List, IsRising, Pairs, tuple_cmp, Satisfies, Dep}
 
 -- the tuples rise, and satisfy the dependencies that are known of them
 pub record IsKnownToSatisfy (tuples : List Pairs) (known : List Dep) : Type 0 where

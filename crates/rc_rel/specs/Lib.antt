@@ -9,3 +9,4 @@ pub mod SharesLaws
 pub mod PlaceLaws
 pub mod Further
 pub mod FurtherLaws
+pub mod Imports

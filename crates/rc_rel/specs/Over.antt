@@ -1,7 +1,6 @@
 -- Tuples over the same columns.
 use Rattle.std.specs.Prelude.{◌≡◌, ℕ, List}
-use Rattle.std.specs.List.{AllByRecursion}
-use Rattle.rc_tuple.specs.Tuple.{Pairs, cols_of}
+use Rattle.rc_rel.specs.Imports.{AllByRecursion, Pairs, cols_of}
 
 -- each tuple has these columns and no other
 abbrev pub AreOver : List ℕ → List Pairs → Type 0

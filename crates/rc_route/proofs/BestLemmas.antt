@@ -1,22 +1,6 @@
 -- The loops that look for the first of those that cost least, and the table of paths.
 use Rattle.std.proofs.Common.{◌≡◌, ℕ, zero, suc, ◌+◌, ◌<◌, ◌≤◌, ◌⊎◌, ◌++◌, ◌∷◌, [], Option, None, Some, List, length, take, get_or, inl, inr, refl, sym, ap, subst, ◌∙◌, arith}
-use Rattle.std.specs.Prelude.{MatchOption}
-use Rattle.std.proofs.Math.ListN.{set, length-set}
-use Rattle.std.proofs.lemmas.Bool.{cases_eq}
-use Rattle.std.proofs.lemmas.List.{take_more}
-use Rattle.rc_tuple.specs.RisingSet.{In}
-use Rattle.rc_tuple.specs.RisingSetLaws.{in_append}
-use Rattle.rc_spec.specs.declared.spec.Spec.{Spec}
-use Rattle.rc_spec.specs.Acceptance.{IsSealed}
-use Rattle.rc_spec.specs.Adequacy.{HasEdgeInto}
-use Rattle.rc_spec.specs.Decomposition.{edge_at}
-use Rattle.rc_spec.specs.DecompositionLaws.{edge_at_in}
-use Rattle.rc_spec.specs.First.{EachHolds}
-use Rattle.rc_spec.specs.Order.{IsNext, IsTopologicalOrder}
-use Rattle.rc_route.specs.Paths.{IsPath, end_of, IsPathFromRoot}
-use Rattle.rc_route.specs.PathsLaws.{path_end, path_short, edges_known, in_get, edge_into, into_edge}
-use Rattle.rc_route.specs.Search.{IsFirstLeast, IsFirstLeastOrNone, path_at, IsLeastTo, EndsAt, cost_by, AreLeastPaths}
-use Rattle.rc_route.specs.SearchLaws.{least_passes, least_keeps, least_begins, least_takes, root_path, step_path}
+use Rattle.rc_route.proofs.Imports.{MatchOption, set, length-set, cases_eq, take_more, In, in_append, Spec, IsSealed, HasEdgeInto, edge_at, edge_at_in, EachHolds, IsNext, IsTopologicalOrder, IsPath, end_of, IsPathFromRoot, path_end, path_short, edges_known, in_get, edge_into, into_edge, IsFirstLeast, IsFirstLeastOrNone, path_at, IsLeastTo, EndsAt, cost_by, AreLeastPaths, least_passes, least_keeps, least_begins, least_takes, root_path, step_path}
 
 -- ---- the best so far, with what it costs, or else more than anything costs
 

@@ -1,12 +1,6 @@
 -- What was found of an edge by its number, and what its locks cost.
 use Rattle.std.proofs.Common.{◌≡◌, ℕ, Bool, false, List, [], ◌∷◌, take, if◌then◌else◌, inl, inr, sym, ap, ◌∙◌, zero, suc}
-use Rattle.rc_tuple.specs.RisingSet.{In}
-use Rattle.rc_tuple.specs.ColSet.{is_within, union}
-use Rattle.rc_spec.specs.declared.items.Class.{Class}
-use Rattle.rc_spec.specs.declared.spec.Spec.{Spec}
-use Rattle.rc_spec.specs.Decomposition.{bound, edge_at}
-use Rattle.rc_spec.specs.Placement.{class_at, class_of, striping}
-use Rattle.rc_route.specs.Paths.{lock_cost}
+use Rattle.rc_route.proofs.Imports.{In, is_within, union, Class, Spec, bound, edge_at, class_at, class_of, striping, lock_cost}
 
 -- all stripes, where pattern and source have not all columns of the class
 pub lock_all : (spec : Spec) (pattern : List ℕ) (e : ℕ) (class : Class) (from : ℕ) (source both : List ℕ) (found : Bool) → class_at spec (class_of spec e) ≡ class → from ≡ (edge_at spec e).from

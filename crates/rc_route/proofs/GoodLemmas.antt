@@ -1,15 +1,6 @@
 -- What the tests of good routes find, as facts.
 use Rattle.std.proofs.Common.{◌≡◌, ℕ, suc, ◌+◌, ◌<◌, ◌↔◌, ◌⊎◌, Bool, true, List, ◌∷◌, ◌++◌, length, drop, get_or, inl, inr, sym, ap, subst, ◌∙◌, arith, drop-cons}
-use Rattle.std.specs.Ordering.{nat_cmp}
-use Rattle.rc_tuple.specs.RisingSet.{In}
-use Rattle.rc_tuple.specs.RisingSetLaws.{nat_order, in_put, put_new, put_old}
-use Rattle.rc_tuple.specs.ColSet.{union, with_column}
-use Rattle.rc_spec.specs.declared.items.Edge.{Edge}
-use Rattle.rc_spec.specs.declared.spec.Spec.{Spec}
-use Rattle.rc_spec.specs.Adequacy.{IsLossless}
-use Rattle.rc_spec.specs.Decomposition.{bound, edge_at, target_columns}
-use Rattle.rc_route.specs.GoodRoutes.{IsStep, IsGoodFrom}
-use Rattle.rc_route.specs.GoodRoutesLaws.{good_reached}
+use Rattle.rc_route.proofs.Imports.{nat_cmp, In, nat_order, in_put, put_new, put_old, union, with_column, Edge, Spec, IsLossless, bound, edge_at, target_columns, IsStep, IsGoodFrom, good_reached}
 
 -- the edge can be read, by what was found at its number
 pub step_found : (spec : Spec) (reached visited : List ℕ) (n : ℕ) (e : Edge) (b : Bool) → edge_at spec n ≡ e → n < length spec.edges

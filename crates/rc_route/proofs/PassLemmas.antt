@@ -1,8 +1,6 @@
 -- A pass by the place of the edge that is tried.
 use Rattle.std.proofs.Common.{◌≡◌, ℕ, zero, suc, ◌+◌, ◌-◌, ◌<◌, ◌≤◌, Bool, true, false, List, [], ◌∷◌, ◌++◌, length, take, drop, get_or, inl, inr, refl, sym, ap, subst, ◌∙◌, arith, drop-cons, length-append, length-drop}
-use Rattle.std.proofs.lemmas.List.{length-take, take_all}
-use Rattle.rc_route.specs.PrunedWalk.{onto, IsLeftFrom}
-use Rattle.rc_route.specs.PrunedWalkLaws.{onto_onto}
+use Rattle.rc_route.proofs.Imports.{length-take, take_all, onto, IsLeftFrom, onto_onto}
 
 onto_take : (xs ys : List ℕ) (i : ℕ) → i < length xs → onto (take (suc i) xs) ys ≡ get_or xs i 0 ∷ onto (take i xs) ys
 onto_take [] ys i l = absurd (omega arith)

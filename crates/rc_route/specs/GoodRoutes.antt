@@ -1,11 +1,6 @@
 -- Routes, and when one is good for a need: the edges can be read in turn, and visit the columns of the need. (PLDI 2011, valid query plans.)
 use Rattle.std.specs.Prelude.{◌≡◌, ℕ, ◌<◌, List, [], ◌∷◌, ◌⊎◌, length}
-use Rattle.std.specs.List.{range_with_len}
-use Rattle.rc_tuple.specs.RisingSet.{In}
-use Rattle.rc_tuple.specs.ColSet.{Within, union}
-use Rattle.rc_spec.specs.declared.spec.Spec.{Spec}
-use Rattle.rc_spec.specs.Adequacy.{IsLossless}
-use Rattle.rc_spec.specs.Decomposition.{edge_at, target_columns}
+use Rattle.rc_route.specs.Imports.{range_with_len, In, Within, union, Spec, IsLossless, edge_at, target_columns}
 
 -- the edges in written order
 abbrev pub all_edges : Spec → List ℕ

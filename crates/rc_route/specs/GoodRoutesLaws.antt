@@ -1,20 +1,9 @@
 -- Laws of good routes.
 use Rattle.std.specs.Prelude.{◌≡◌, ℕ, zero, suc, ◌+◌, ◌<◌, List, [], ◌∷◌, ◌++◌, ◌⊎◌, map, take, length}
-use Rattle.std.specs.List.{range_with_len}
+use Rattle.rc_route.specs.Imports.{range_with_len, In, in_append, in_has, has_in, has, Within, union, inter, in_range_bounds, Edge, Spec, IsAdequate, IsLossless, KeepsA6, visited, all_columns, edge_at, no_edge, target_columns, visited_more, IsInRange}
 use Rattle.std.proofs.Common.{inl, inr, sym, ap, subst, ◌∙◌, arith}
 use Rattle.std.proofs.lemmas.Bool.{false≢true, cases_Bool, cases_eq, cases_lt}
 use Rattle.std.proofs.lemmas.List.{take_more, map-append}
-use Rattle.rc_tuple.specs.RisingSet.{In}
-use Rattle.rc_tuple.specs.RisingSetLaws.{in_append, in_has, has_in}
-use Rattle.rc_tuple.specs.ColSet.{has, Within, union, inter}
-use Rattle.rc_tuple.specs.ColSetLaws.{in_range_bounds}
-use Rattle.rc_spec.specs.declared.items.Edge.{Edge}
-use Rattle.rc_spec.specs.declared.spec.Spec.{Spec}
-use Rattle.rc_spec.specs.Adequacy.{IsAdequate, IsLossless, KeepsA6, visited}
-use Rattle.rc_spec.specs.Calls.{all_columns}
-use Rattle.rc_spec.specs.Decomposition.{edge_at, no_edge, target_columns}
-use Rattle.rc_spec.specs.DecompositionLaws.{visited_more}
-use Rattle.rc_spec.specs.InRange.{IsInRange}
 use Rattle.rc_route.specs.GoodRoutes.{all_edges, IsStep, IsGoodFrom, IsGoodRoute}
 use Rattle.rc_route.specs.ImpliedLaws.{IsDecided, both_decided, either_decided, within_decided, follows_decided}
 

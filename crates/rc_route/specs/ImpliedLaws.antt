@@ -2,15 +2,7 @@
 use Rattle.std.specs.Prelude.{◌≡◌, ℕ, zero, suc, ◌<◌, ◌≤◌, false, List, [], ◌∷◌, ◌⊎◌}
 use Rattle.std.proofs.Common.{inl, inr, refl, sym, subst, ◌∙◌, arith}
 use Rattle.std.proofs.lemmas.Bool.{false≢true, cases_Bool}
-use Rattle.rc_tuple.specs.RisingSet.{In}
-use Rattle.rc_tuple.specs.ColSet.{Within, IsColSet, is_within, union}
-use Rattle.rc_tuple.specs.ColSetLaws.{within_from_test, test_from_within, union_left}
-use Rattle.rc_tuple.specs.GrowthLaws.{missing, missing_union}
-use Rattle.rc_tuple.specs.Relation.{Follows}
-use Rattle.rc_tuple.specs.declared.dep.Dep.{Dep}
-use Rattle.rc_fd.specs.Closed.{IsClosed}
-use Rattle.rc_fd.specs.ClosedLaws.{follows_closed}
-use Rattle.rc_fd.specs.FollowsLaws.{follows_subset, follows_dependency, follows_transitive, follows_union}
+use Rattle.rc_route.specs.Imports.{In, Within, IsColSet, is_within, union, within_from_test, test_from_within, union_left, missing, missing_union, Follows, Dep, IsClosed, follows_closed, follows_subset, follows_dependency, follows_transitive, follows_union}
 
 -- it holds, or it does not
 abbrev pub IsDecided : Type 0 → Type 0

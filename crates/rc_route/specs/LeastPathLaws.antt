@@ -1,24 +1,10 @@
 -- Laws of least paths and of chosen routes.
 use Rattle.std.specs.Prelude.{◌≡◌, ℕ, zero, suc, ◌<◌, ◌≤◌, true, List, [], ◌∷◌, ◌⊎◌, ◌==◌, ◌↔◌, filter, map, reverse, length}
-use Rattle.std.specs.List.{flat_map}
-use Rattle.std.specs.declared.cmp.Ordering.{Ordering}
-use Rattle.std.specs.declared.cmp.Ordering.TheVariants.{Less, Equal, Greater}
-use Rattle.std.specs.Ordering.{nat_cmp, ordering_then, MatchOrdering}
-use Rattle.std.specs.Cmp.Lexicographic.{slice_cmp}
+use Rattle.rc_route.specs.Imports.{flat_map, Ordering, Less, Equal, Greater, nat_cmp, ordering_then, MatchOrdering, slice_cmp, In, IsRising, gather, IsOrder, not_below_itself, rising_gather, in_gather, gather_in, in_filter, filter_in, in_map, map_in, in_flat_map, flat_map_in, number_lists_order, Within, is_within, within_from_test, test_from_within, in_range_bounds, in_range_below, then_equal, Spec, IsAdequate, all_columns, bound, edge_at, IsInRange, HasColumnAndNode}
 use Rattle.std.proofs.Common.{inl, inr, refl, sym, ap, subst, ◌∙◌, arith}
 use Rattle.std.proofs.lemmas.Bool.{eqb-true, eq-eqb, cases_eq}
 use Rattle.std.proofs.lemmas.Cmp.{nat_cmp_total, then_total, on_total, ranked}
 use Rattle.std.proofs.lemmas.List.{reverse-reverse}
-use Rattle.rc_tuple.specs.RisingSet.{In, IsRising, gather}
-use Rattle.rc_tuple.specs.RisingSetLaws.{IsOrder, not_below_itself, rising_gather, in_gather, gather_in, in_filter, filter_in, in_map, map_in, in_flat_map, flat_map_in, number_lists_order}
-use Rattle.rc_tuple.specs.ColSet.{Within, is_within}
-use Rattle.rc_tuple.specs.ColSetLaws.{within_from_test, test_from_within, in_range_bounds, in_range_below}
-use Rattle.rc_tuple.specs.TupleLaws.{then_equal}
-use Rattle.rc_spec.specs.declared.spec.Spec.{Spec}
-use Rattle.rc_spec.specs.Adequacy.{IsAdequate}
-use Rattle.rc_spec.specs.Calls.{all_columns}
-use Rattle.rc_spec.specs.Decomposition.{bound, edge_at}
-use Rattle.rc_spec.specs.InRange.{IsInRange, HasColumnAndNode}
 use Rattle.rc_route.specs.GoodRoutes.{IsGoodRoute, all_edges}
 use Rattle.rc_route.specs.ImpliedLaws.{within_decided}
 use Rattle.rc_route.specs.Paths.{IsPath, end_of, cost, path_cmp, IsPathFor, IsLeastPath, SomeNodeBinds, IsChosenRoute, Least, Pruned}

@@ -8,3 +8,4 @@ pub mod PrunedWalk
 pub mod PrunedWalkLaws
 pub mod Search
 pub mod SearchLaws
+pub mod Imports

@@ -1,16 +1,7 @@
 -- Paths from the root, their cost, and the least path that binds a need.
 use Rattle.std.specs.Prelude.{◌≡◌, ℕ, ◌+◌, ◌<◌, List, [], ◌∷◌, ◌⊎◌, length, reverse, if◌then◌else◌}
-use Rattle.std.specs.List.{sum_by}
-use Rattle.std.specs.declared.cmp.Ordering.{Ordering}
-use Rattle.std.specs.declared.cmp.Ordering.TheVariants.{Less}
-use Rattle.std.specs.Ordering.{nat_cmp, ordering_then}
-use Rattle.std.specs.Cmp.Lexicographic.{slice_cmp}
-use Rattle.rc_tuple.specs.ColSet.{Within, is_within, union}
-use Rattle.rc_spec.specs.declared.items.EdgeKind.{EdgeKind}
+use Rattle.rc_route.specs.Imports.{sum_by, Ordering, Less, nat_cmp, ordering_then, slice_cmp, Within, is_within, union, EdgeKind, Spec, bound, edge_at, class_at, class_of, striping}
 use Rattle.rc_spec.specs.declared.items.EdgeKind.TheVariants as kinds
-use Rattle.rc_spec.specs.declared.spec.Spec.{Spec}
-use Rattle.rc_spec.specs.Decomposition.{bound, edge_at}
-use Rattle.rc_spec.specs.Placement.{class_at, class_of, striping}
 use Rattle.rc_route.specs.PrunedWalk.{IsPrunedWalk}
 
 -- ---- paths

@@ -3,24 +3,8 @@ use Rattle.std.specs.Prelude.{◌≡◌, ℕ, zero, suc, ◌+◌, ◌*◌, ◌<�
 use Rattle.std.proofs.Common.{inl, inr, refl, sym, ap, subst, ◌∙◌, arith, lit≤}
 use Rattle.std.proofs.lemmas.Bool.{eqb-true, eq-eqb, true≢false, not-true}
 use Rattle.std.proofs.lemmas.List.Sums.{sum_by_more, sum_by-cons}
-use Rattle.rc_tuple.specs.RisingSet.{In, AreDistinct}
-use Rattle.rc_tuple.specs.RisingSetLaws.{in_filter}
-use Rattle.rc_tuple.specs.ColSet.{Within, is_within, union, inter}
-use Rattle.rc_tuple.specs.ColSetLaws.{union_left, union_right, union_within, inter_in}
-use Rattle.rc_fd.specs.FollowsLaws.{follows_subset}
-use Rattle.rc_graph.specs.Walks.{Reaches}
-use Rattle.rc_graph.specs.WalksLaws.{reaches_circle}
-use Rattle.rc_spec.specs.declared.items.Class.{Class}
-use Rattle.rc_spec.specs.declared.items.Edge.{Edge}
-use Rattle.rc_spec.specs.declared.items.EdgeKind.{EdgeKind}
+use Rattle.rc_route.specs.Imports.{In, AreDistinct, in_filter, Within, is_within, union, inter, union_left, union_right, union_within, inter_in, follows_subset, Reaches, reaches_circle, Class, Edge, EdgeKind, Spec, IsAdequate, KeepsA2, IsRoot, HasEdgeInto, bound, edge_at, no_edge, target_columns, edge_at_in, IsInRange, HasColumnAndNode, class_at, class_of, no_class, striping, IsPlaced, class_of_known}
 use Rattle.rc_spec.specs.declared.items.EdgeKind.TheVariants as kinds
-use Rattle.rc_spec.specs.declared.spec.Spec.{Spec}
-use Rattle.rc_spec.specs.Adequacy.{IsAdequate, KeepsA2, IsRoot, HasEdgeInto}
-use Rattle.rc_spec.specs.Decomposition.{bound, edge_at, no_edge, target_columns}
-use Rattle.rc_spec.specs.DecompositionLaws.{edge_at_in}
-use Rattle.rc_spec.specs.InRange.{IsInRange, HasColumnAndNode}
-use Rattle.rc_spec.specs.Placement.{class_at, class_of, no_class, striping, IsPlaced}
-use Rattle.rc_spec.specs.PlacementLaws.{class_of_known}
 use Rattle.rc_route.specs.GoodRoutes.{IsGoodFrom, IsGoodRoute}
 use Rattle.rc_route.specs.Paths.{IsPath, end_of, lookup_cost, scan_cost, read_cost, lock_cost, edge_cost, cost, IsPathFor}
 

@@ -3,11 +3,7 @@ use Rattle.std.specs.Prelude.{◌≡◌, ℕ, zero, suc, ◌+◌, ◌≤◌, Lis
 use Rattle.std.proofs.Common.{inl, inr, refl, sym, ap, subst, ◌∙◌, arith}
 use Rattle.std.proofs.lemmas.Bool.{cases_eq}
 use Rattle.std.proofs.lemmas.List.{append-nil}
-use Rattle.rc_tuple.specs.ColSet.{Within}
-use Rattle.rc_spec.specs.declared.spec.Spec.{Spec}
-use Rattle.rc_spec.specs.Adequacy.{IsAdequate}
-use Rattle.rc_spec.specs.Calls.{all_columns}
-use Rattle.rc_spec.specs.InRange.{IsInRange}
+use Rattle.rc_route.specs.Imports.{Within, Spec, IsAdequate, all_columns, IsInRange}
 use Rattle.rc_route.specs.GoodRoutes.{IsGoodRoute, all_edges}
 use Rattle.rc_route.specs.GoodRoutesLaws.{all_edges_good, good_decided}
 use Rattle.rc_route.specs.ImpliedLaws.{IsDecided}

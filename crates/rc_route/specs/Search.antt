@@ -1,13 +1,6 @@
 -- What a search for least paths keeps: the least path to each node, by cost and then by the edges from the last one back.
 use Rattle.std.specs.Prelude.{◌≡◌, ℕ, ◌+◌, ◌<◌, ◌≤◌, List, [], ◌⊎◌, length, reverse, get_or, Option, MatchOption}
-use Rattle.std.specs.declared.cmp.Ordering.{Ordering}
-use Rattle.std.specs.declared.cmp.Ordering.TheVariants.{Less}
-use Rattle.std.specs.Ordering.{nat_cmp, ordering_then}
-use Rattle.std.specs.Cmp.Lexicographic.{slice_cmp}
-use Rattle.rc_tuple.specs.RisingSet.{In}
-use Rattle.rc_tuple.specs.ColSet.{Within}
-use Rattle.rc_spec.specs.declared.spec.Spec.{Spec}
-use Rattle.rc_spec.specs.Decomposition.{bound, edge_at}
+use Rattle.rc_route.specs.Imports.{Ordering, Less, nat_cmp, ordering_then, slice_cmp, In, Within, Spec, bound, edge_at}
 use Rattle.rc_route.specs.Paths.{IsPath, cost, edge_cost}
 
 -- of the numbers below a limit for which P holds, the first of those that cost least

@@ -1,20 +1,11 @@
 -- Laws of a search for least paths along an order in which each edge leads forward. (Shortest paths in a directed acyclic graph.)
 use Rattle.std.specs.Prelude.{◌≡◌, ℕ, ◌+◌, ◌<◌, ◌≤◌, List, [], ◌∷◌, ◌++◌, ◌⊎◌, Option, None, Some, reverse, length}
-use Rattle.std.specs.declared.cmp.Ordering.{Ordering}
-use Rattle.std.specs.declared.cmp.Ordering.TheVariants.{Less, Equal, Greater}
-use Rattle.std.specs.Ordering.{nat_cmp, ordering_then, MatchOrdering}
-use Rattle.std.specs.Cmp.Lexicographic.{slice_cmp}
+use Rattle.rc_route.specs.Imports.{Ordering, Less, Equal, Greater, nat_cmp, ordering_then, MatchOrdering, slice_cmp, IsOrder, number_lists_order, then_equal, Spec, HasEdgeInto, IsRoot, edge_at, IsInRange, HasColumnAndNode}
 use Rattle.std.proofs.Common.{inl, inr, refl, sym, ap, subst, ◌∙◌, arith}
 use Rattle.std.proofs.lemmas.Bool.{cases_eq, cases_lt}
 use Rattle.std.proofs.lemmas.Cmp.{nat_cmp_total, then_total, on_total, ranked}
 use Rattle.std.proofs.lemmas.List.{reverse-reverse, reverse-append}
 use Rattle.std.proofs.lemmas.List.Sums.{sum_by_push}
-use Rattle.rc_tuple.specs.RisingSetLaws.{IsOrder, number_lists_order}
-use Rattle.rc_tuple.specs.TupleLaws.{then_equal}
-use Rattle.rc_spec.specs.declared.spec.Spec.{Spec}
-use Rattle.rc_spec.specs.Adequacy.{HasEdgeInto, IsRoot}
-use Rattle.rc_spec.specs.Decomposition.{edge_at}
-use Rattle.rc_spec.specs.InRange.{IsInRange, HasColumnAndNode}
 use Rattle.rc_route.specs.Paths.{IsPath, end_of, cost, edge_cost, path_cmp, IsLeastPath}
 use Rattle.rc_route.specs.PathsLaws.{path_end, path_more, end_below, into_edge}
 use Rattle.rc_route.specs.Search.{IsFirstLeast, IsFirstLeastOrNone, path_at, back_cmp, IsLeastTo, EndsAt, cost_by, Binds, cost_to}

@@ -1,26 +1,6 @@
 -- A pass and its seat agree after each step.
 use Rattle.std.proofs.Common.{◌≡◌, ℕ, ◌<◌, ◌≤◌, List, [], ◌∷◌, ◌++◌, length, None, sym, ap, ◌∙◌, subst, arith}
-use Rattle.std.specs.declared.cmp.Ordering.TheVariants.{Less}
-use Rattle.std.specs.Ordering.{nat_cmp}
-use Rattle.std.specs.Cmp.{nat_cmp_is}
-use Rattle.std.proofs.lemmas.List.{map-append, length-map}
-use Rattle.rc_tuple.specs.RisingSet.{IsRising}
-use Rattle.rc_spec.specs.declared.lock.Mode.{Mode}
-use Rattle.rc_spec.specs.declared.spec.Spec.{Spec}
-use Rattle.rc_spec.specs.Fragments.{EdgeRow}
-use Rattle.rc_core.specs.declared.state.Hold.{Hold}
-use Rattle.rc_core.specs.State.{hold, stripes_in}
-use Rattle.rc_core.specs.Passes.{IsAbove, IsHigh, took}
-use Rattle.rc_core.specs.ListLaws.{rising_end}
-use Rattle.rc_core.specs.SizeLaws.{length-rising}
-use Rattle.atomic_table.specs.Table.{Me}
-use Rattle.rc_row.specs.declared.law.Standing.{Standing}
-use Rattle.rc_row.specs.declared.law.View.{View}
-use Rattle.rc_row.specs.HeldRows.{HeldRows, just_held}
-use Rattle.rc_row.specs.Law.{Slot, kept_of, pass_view, standing_of}
-use Rattle.rc_row.specs.PassInside.{Agrees}
-use Rattle.rc_row.specs.Passes.{holds_taken}
-use Rattle.rc_row.specs.Standings.{with_core}
+use Rattle.rc_row.proofs.Imports.{Less, nat_cmp, nat_cmp_is, map-append, length-map, IsRising, Mode, Spec, EdgeRow, Hold, hold, stripes_in, IsAbove, IsHigh, took, rising_end, length-rising, Me, Standing, View, HeldRows, just_held, Slot, kept_of, pass_view, standing_of, Agrees, holds_taken, with_core}
 
 -- ---- what is held, as the core has it
 

@@ -1,10 +1,6 @@
 -- What comes out of the slot of a stripe just locked, and how the own slots there are emptied.
 use Rattle.std.proofs.Common.{◌≡◌, ℕ, zero, suc, ◌-◌, ◌<◌, ◌≤◌, Bool, true, false, List, [], ◌∷◌, ◌++◌, length, drop, take, refl, sym, ap, ◌∙◌, arith}
-use Rattle.atomic_table.specs.Table.{rest, turned}
-use Rattle.rc_fragment.specs.Keep.{KeptRows}
-use Rattle.rc_row.specs.declared.slot.Slot.TheVariants.{Apart, Empty, Handed}
-use Rattle.rc_row.specs.Law.{Slot, kept_in, own_place, slot_place}
-use Rattle.rc_row.specs.Own.{HasInFront, IsLockedWith, own_hands, turned_times}
+use Rattle.rc_row.proofs.Imports.{rest, turned, KeptRows, Apart, Empty, Handed, Slot, kept_in, own_place, slot_place, HasInFront, IsLockedWith, own_hands, turned_times}
 use Rattle.rc_row.proofs.OwnLemmas.{emptying, front_emptying, next_emptying}
 use Rattle.rc_row.proofs.OwnHandsLemmas.{emptying_first, emptying_last}
 

@@ -1,19 +1,6 @@
 -- Giving a stripe back whose changes are taken back first.
 use Rattle.std.proofs.Common.{◌≡◌, ℕ, ◌<◌, ◌==◌, Bool, true, false, List, [], ◌∷◌, not, cond, sym, refl, ap, ◌∙◌, subst}
-use Rattle.std.proofs.lemmas.Bool.{eq-eqb}
-use Rattle.std.proofs.lemmas.List.Elements.{All-nil, All-cons, All-map, All-weaker}
-use Rattle.rc_tuple.specs.RisingSet.{In}
-use Rattle.rc_tuple.specs.RisingSetLaws.{map_in}
-use Rattle.rc_spec.specs.declared.lock.Mode.{Mode}
-use Rattle.rc_fragment.specs.Fragment.{edge_table}
-use Rattle.rc_fragment.specs.FragmentRows.{FragmentRows, rolled_back}
-use Rattle.rc_fragment.specs.Keep.{IsAtRest}
-use Rattle.rc_core.specs.declared.state.Hold.{Hold}
-use Rattle.rc_core.specs.State.{hold, held_in, stripes_in}
-use Rattle.rc_core.specs.ListLaws.{stripes_have}
-use Rattle.rc_row.specs.HeldRows.{HeldRows}
-use Rattle.rc_row.specs.Passes.{IsPassOf, OfHeld, PassSeen, RowSeen, core_of, held_with, held_without, holds_taken, spec_of, stripes_of, with_fragment, with_held, without_stripe}
-use Rattle.rc_row.specs.Released.{IsHeldSo}
+use Rattle.rc_row.proofs.Imports.{eq-eqb, All-nil, All-cons, All-map, All-weaker, In, map_in, Mode, edge_table, FragmentRows, rolled_back, IsAtRest, Hold, hold, held_in, stripes_in, stripes_have, HeldRows, IsPassOf, OfHeld, PassSeen, RowSeen, core_of, held_with, held_without, holds_taken, spec_of, stripes_of, with_fragment, with_held, without_stripe, IsHeldSo}
 
 -- without the stripe, what its fragment was is of no matter
 without_with : (p : ℕ) (change : FragmentRows → FragmentRows) (held : List HeldRows) → held_without (held_with p change held) p ≡ held_without held p

@@ -1,24 +1,6 @@
 -- One held stripe changed, or given back, and all that is held changed.
 use Rattle.std.proofs.Common.{◌≡◌, ℕ, zero, suc, ◌+◌, ◌-◌, ◌<◌, ◌==◌, Bool, true, false, List, [], ◌∷◌, ◌++◌, length, map, not, cond, get_or, set, take, drop, sym, refl, ap, ◌∙◌, subst, inl, inr, arith, add-one}
-use Rattle.std.specs.List.{remove}
-use Rattle.std.specs.declared.cmp.Ordering.TheVariants.{Less}
-use Rattle.std.specs.Ordering.{nat_cmp}
-use Rattle.std.proofs.lemmas.Bool.{eq-eqb, ne_eqb}
-use Rattle.std.proofs.lemmas.Cmp.{ranked}
-use Rattle.std.proofs.lemmas.List.{map-append}
-use Rattle.std.proofs.lemmas.List.Elements.{filter-append, All-nil, All-cons, All-append, All-same}
-use Rattle.std.proofs.lemmas.List.Edits.{remove-append_right}
-use Rattle.std.proofs.Math.Seq.{set-append_seam}
-use Rattle.rc_tuple.specs.RisingSet.{In, IsRising}
-use Rattle.rc_fragment.specs.FragmentRows.{FragmentRows}
-use Rattle.rc_core.specs.declared.state.Hold.{Hold}
-use Rattle.rc_core.specs.State.{hold, stripes_in}
-use Rattle.rc_core.specs.Passes.{other_holds}
-use Rattle.rc_row.specs.HeldRows.{HeldRows}
-use Rattle.rc_row.specs.Law.{Slot}
-use Rattle.rc_row.specs.Own.{hand_out, hands_out}
-use Rattle.rc_row.specs.Passes.{OfHeld, all_with, held_with, held_without, holds_taken, with_fragment}
-use Rattle.rc_row.specs.Turns.{IsHeldAt}
+use Rattle.rc_row.proofs.Imports.{remove, Less, nat_cmp, eq-eqb, ne_eqb, ranked, map-append, filter-append, All-nil, All-cons, All-append, All-same, remove-append_right, set-append_seam, In, IsRising, FragmentRows, Hold, hold, stripes_in, other_holds, HeldRows, Slot, hand_out, hands_out, OfHeld, all_with, held_with, held_without, holds_taken, with_fragment, IsHeldAt}
 use Rattle.rc_row.proofs.TurnLemmas.{stripes_of-append}
 
 -- ---- stripes that aren't there

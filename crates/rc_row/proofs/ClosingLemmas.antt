@@ -1,46 +1,9 @@
 -- A closed row has one history.
 use Rattle.std.proofs.Common.{◌≡◌, ℕ, zero, suc, ◌+◌, ◌*◌, ◌<◌, ◌≤◌, ◌^◌, ◌||◌, Bool, false, List, [], ◌∷◌, ◌++◌, length, map, drop, take, get_or, Some, None, sym, refl, ap, ◌∙◌, subst, inl, inr, arith, length-append}
-use Rattle.std.specs.Prelude.{All}
-use Rattle.std.proofs.lemmas.Option.{same_Some}
-use Rattle.std.specs.List.{slice_get, range_with_len, remove}
-use Rattle.std.proofs.lemmas.Bool.{cases_eq, false≢true, eq-eqb}
-use Rattle.std.proofs.lemmas.List.{length-map, map-append}
-use Rattle.std.proofs.lemmas.List.FromFn.{length-range_with_len}
+use Rattle.rc_row.proofs.Imports.{All, same_Some, slice_get, range_with_len, remove, cases_eq, false≢true, eq-eqb, length-map, map-append, length-range_with_len, In, has_in, has, fragment_of, Shared, Exclusive, stripe_total, Spec, KeptRows, Entry, Placed, IsPrefix, own_placed, replay, own_make_the_history, Hold, Keeper, Home, Writer, PassState, stripe_at, is_at, is_writer, stripes_in, held_in, IsGoodHistory, IsGoodKeeper, MayGoOn, few_tuples, history_law, State, Final, Seen, EndedPass, Key, Refusal, Standing, View, IsEndedPass, HasHistory, AreEnded, Slot, kept_in, kept_of, history_by, lodged, slot_place, spec_by, stripes_by, numbers_in, passes_view, AreKnown, AreSeatedAt, AreTold, IsKept, begins_with, good_of, refusals_of, made_by, PassSeen, RowSeen, core_of, spec_of, stripes_of, row_seen}
 use mathlib.Core.Option.{some, some-injective}
 use lib.ListN.{get_elem?}
-use Rattle.rc_tuple.specs.RisingSet.{In}
-use Rattle.rc_tuple.specs.RisingSetLaws.{has_in}
-use Rattle.rc_tuple.specs.ColSet.{has}
-use Rattle.rc_spec.specs.Fragments.{fragment_of}
-use Rattle.rc_spec.specs.declared.lock.Mode.TheVariants.{Shared, Exclusive}
-use Rattle.rc_spec.specs.Stripes.{stripe_total}
-use Rattle.rc_spec.specs.declared.spec.Spec.{Spec}
-use Rattle.rc_fragment.specs.Keep.{KeptRows}
-use Rattle.rc_rel.specs.declared.entry.Entry.{Entry}
-use Rattle.rc_rel.specs.declared.entry.Placed.{Placed}
-use Rattle.rc_rel.specs.History.{IsPrefix, own_placed, replay}
-use Rattle.rc_journal.specs.HistoryWithLaws.{own_make_the_history}
-use Rattle.rc_core.specs.declared.state.Hold.{Hold}
-use Rattle.rc_core.specs.declared.state.Keeper.{Keeper}
-use Rattle.rc_core.specs.declared.state.Keeper.TheVariants.{Home, Writer}
-use Rattle.rc_core.specs.declared.state.PassState.{PassState}
-use Rattle.rc_core.specs.State.{stripe_at, is_at, is_writer, stripes_in, held_in}
-use Rattle.rc_core.specs.Good.{IsGoodHistory, IsGoodKeeper}
-use Rattle.rc_core.specs.Resumed.{MayGoOn}
-use Rattle.rc_core.specs.SizeLaws.{few_tuples, history_law}
-use Rattle.atomic_table.specs.Table.{State, Final, Seen}
-use Rattle.rc_row.specs.declared.close.EndedPass.{EndedPass}
-use Rattle.rc_row.specs.declared.law.Key.{Key}
-use Rattle.rc_row.specs.declared.law.Refusal.{Refusal}
-use Rattle.rc_row.specs.declared.law.Standing.{Standing}
-use Rattle.rc_row.specs.declared.law.View.{View}
 use Rattle.rc_row.specs.declared.row.Row.TheInside.{Inside}
-use Rattle.rc_row.specs.Ended.{IsEndedPass, HasHistory, AreEnded}
-use Rattle.rc_row.specs.Law.{Slot, kept_in, kept_of, history_by, lodged, slot_place, spec_by, stripes_by, numbers_in, passes_view, AreKnown, AreSeatedAt, AreTold, IsKept}
-use Rattle.rc_row.specs.RunLaws.{begins_with, good_of, refusals_of}
-use Rattle.rc_row.specs.HistoryMade.{made_by}
-use Rattle.rc_row.specs.Passes.{PassSeen, RowSeen, core_of, spec_of, stripes_of}
-use Rattle.rc_row.specs.RowInside.{row_seen}
 use Rattle.rc_row.proofs.AloneLemmas.{same_kept}
 use Rattle.rc_row.proofs.ListLemmas.{all_at, get_before, get_last}
 use Rattle.rc_row.proofs.StripeLemmas.{there, no_latch, slot_home}

@@ -1,40 +1,9 @@
 -- A commit keeps the rule, and so does a look at the commit word.
 use Rattle.std.proofs.Common.{◌≡◌, ℕ, ◌*◌, ◌+◌, ◌%◌, ◌^◌, ◌≤◌, Bool, true, false, if◌then◌else◌, List, [], ◌∷◌, ◌++◌, length, map, set, Some, None, sym, refl, ap, ◌∙◌, subst, arith, length-set, length-append}
-use Rattle.std.specs.Prelude.{slice_index}
-use Rattle.std.specs.List.{slice_get}
-use Rattle.std.proofs.lemmas.List.{get_or-set_same, get_or-set_other}
+use Rattle.rc_row.proofs.Imports.{slice_index, slice_get, get_or-set_same, get_or-set_other, Entry, IsPrefix, prefix_same, CoreState, PassState, Hold, held_in, is_mode, shares_of, stripes_in, MayCommit, committed, learned, renewed, renewed_as, rows_then, has, In, EdgeRow, Mode, Shared, Exclusive, Spec, with_pass, IsGood, IsOfHistory, of_history, get_set_same, commit_keeps, history_law, State, step, keeps, Allows, Key, Standing, View, Slot, AreKnown, compiled_by, spec_by, stripes_by, stripe_word, latch_word, pass_view, IsKept, OfCore, row_state, good_of, after_entry, after_look, ToldAtCommit, ToldAtLook}
 use mathlib.Core.Option.{some, none}
 use lib.ListN.{get_elem?}
-use Rattle.rc_rel.specs.declared.entry.Entry.{Entry}
-use Rattle.rc_rel.specs.History.{IsPrefix}
-use Rattle.rc_rel.specs.PlaceLaws.{prefix_same}
-use Rattle.rc_core.specs.declared.state.CoreState.{CoreState}
-use Rattle.rc_core.specs.declared.state.PassState.{PassState}
-use Rattle.rc_core.specs.declared.state.Hold.{Hold}
-use Rattle.rc_core.specs.State.{held_in, is_mode, shares_of, stripes_in}
-use Rattle.rc_core.specs.Passes.{MayCommit, committed, learned, renewed, renewed_as, rows_then}
-use Rattle.rc_tuple.specs.ColSet.{has}
-use Rattle.rc_tuple.specs.RisingSet.{In}
-use Rattle.rc_spec.specs.Fragments.{EdgeRow}
-use Rattle.rc_spec.specs.declared.lock.Mode.{Mode}
-use Rattle.rc_spec.specs.declared.lock.Mode.TheVariants.{Shared, Exclusive}
-use Rattle.rc_spec.specs.declared.spec.Spec.{Spec}
 use Rattle.rc_core.specs.declared.event.Event.TheVariants as event
-use Rattle.rc_core.specs.Events.{with_pass}
-use Rattle.rc_core.specs.Good.{IsGood, IsOfHistory}
-use Rattle.rc_core.specs.RunLaws.{of_history}
-use Rattle.rc_core.specs.ListLaws.{get_set_same}
-use Rattle.rc_core.specs.CommitLaws.{commit_keeps}
-use Rattle.rc_core.specs.SizeLaws.{history_law}
-use Rattle.atomic_table.specs.Table.{State, step, keeps, Allows}
-use Rattle.rc_row.specs.declared.law.Key.{Key}
-use Rattle.rc_row.specs.declared.law.Standing.{Standing}
-use Rattle.rc_row.specs.declared.law.View.{View}
-use Rattle.rc_row.specs.Law.{Slot, AreKnown, compiled_by, spec_by, stripes_by, stripe_word, latch_word, pass_view, IsKept}
-use Rattle.rc_row.specs.Run.{OfCore, row_state}
-use Rattle.rc_row.specs.RunLaws.{good_of}
-use Rattle.rc_row.specs.Standings.{after_entry, after_look}
-use Rattle.rc_row.specs.Told.{ToldAtCommit, ToldAtLook}
 use Rattle.rc_row.proofs.ListLemmas.{all_end}
 use Rattle.rc_row.proofs.MoveLemmas.{moved, its_core, its_known, its_latch, its_pass, its_place, still_known}
 use Rattle.rc_row.proofs.StripeLemmas.{has_one, its_handed, still_bare}

@@ -1,14 +1,6 @@
 -- What a step told, once the number that it found was tested.
 use Rattle.std.proofs.Common.{◌≡◌, ◌≢◌, ℕ, ◌%◌, Bool, List, ◌∷◌, ◌++◌, ap, ◌∙◌, subst}
-use Rattle.std.specs.Prelude.{MatchBool, Option, Some, None, IfSome, IfNone}
-use Rattle.std.proofs.lemmas.Bool.{eq-eqb, ne_eqb}
-use Rattle.rc_row.specs.declared.law.Key.{Key}
-use Rattle.rc_row.specs.declared.law.View.{View}
-use Rattle.atomic_table.specs.Table.{Me}
-use Rattle.rc_row.specs.HeldRows.{HeldRows}
-use Rattle.rc_row.specs.Law.{Slot, kept_of, lodged, slot_place, spec_by}
-use Rattle.rc_row.specs.Own.{IsLockedWith, hands_out, own_hands}
-use Rattle.rc_row.specs.Told.{EntersOrTurns, HasEntered, HasLatched, HasLocked, HasTurned, IsLatchedOut, IsLockedOut, LatchesOrNot, LocksOrNot}
+use Rattle.rc_row.proofs.Imports.{MatchBool, Option, Some, None, IfSome, IfNone, eq-eqb, ne_eqb, Key, View, Me, HeldRows, Slot, kept_of, lodged, slot_place, spec_by, IsLockedWith, hands_out, own_hands, EntersOrTurns, HasEntered, HasLatched, HasLocked, HasTurned, IsLatchedOut, IsLockedOut, LatchesOrNot, LocksOrNot}
 
 module _ (key : Key) (m m' : Me Slot View) (p found : ℕ) where
   pub has_locked : found ≡ 0 → LocksOrNot key m p found m' → HasLocked key m p m'

@@ -1,18 +1,6 @@
 -- Giving stripes back one after another.
-use Rattle.std.specs.Prelude.{All}
+use Rattle.rc_row.proofs.Imports.{All, eq-eqb, All-contains, All-filter, In, in_contains, map_in, Mode, IsAtRest, Hold, hold, held_in, stripes_in, stripes_in_have, HeldRows, AreAtRest, held_without, holds_taken, IsHeldSo}
 use Rattle.std.proofs.Common.{◌≡◌, ℕ, suc, ◌<◌, ◌≤◌, ◌==◌, Bool, true, false, List, [], ◌∷◌, length, not, cond, sym, ap, ◌∙◌, subst, inl, inr, arith}
-use Rattle.std.proofs.lemmas.Bool.{eq-eqb}
-use Rattle.std.proofs.lemmas.List.Elements.{All-contains, All-filter}
-use Rattle.rc_tuple.specs.RisingSet.{In}
-use Rattle.rc_tuple.specs.RisingSetLaws.{in_contains, map_in}
-use Rattle.rc_spec.specs.declared.lock.Mode.{Mode}
-use Rattle.rc_fragment.specs.Keep.{IsAtRest}
-use Rattle.rc_core.specs.declared.state.Hold.{Hold}
-use Rattle.rc_core.specs.State.{hold, held_in, stripes_in}
-use Rattle.rc_core.specs.ListLaws.{stripes_in_have}
-use Rattle.rc_row.specs.HeldRows.{HeldRows}
-use Rattle.rc_row.specs.Passes.{AreAtRest, held_without, holds_taken}
-use Rattle.rc_row.specs.Released.{IsHeldSo}
 
 -- the core has the stripe in that mode
 pub held_so : (held : List HeldRows) (holds : List Hold) (p : ℕ) (mode : Mode) → IsHeldSo held p mode → holds_taken held ≡ holds → In p (stripes_in (held_in mode holds))

@@ -1,37 +1,7 @@
 -- What is known of the fragment of a stripe that is given back.
 use Rattle.std.proofs.Common.{◌≡◌, ℕ, suc, Bool, List, [], ◌∷◌, ◌++◌, Option, Some, None, true, length, drop, if◌then◌else◌, sym, refl, ap, ◌∙◌, subst, inl, inr}
-use Rattle.std.specs.Prelude.{IfSome}
-use Rattle.std.specs.List.{All, remove}
-use Rattle.std.specs.Ordering.{nat_cmp}
-use Rattle.std.proofs.lemmas.Bool.{eq-eqb, ne_eqb}
-use Rattle.std.proofs.lemmas.List.{map-append}
-use Rattle.std.proofs.lemmas.List.Elements.{All-get_or}
-use Rattle.rc_tuple.specs.RisingSet.{In, IsRising}
-use Rattle.rc_tuple.specs.RisingSetLaws.{in_append}
-use Rattle.rc_spec.specs.declared.lock.Mode.{Mode}
-use Rattle.rc_spec.specs.Fragments.{EdgeRow}
-use Rattle.rc_spec.specs.declared.spec.Spec.{Spec}
-use Rattle.rc_fragment.specs.Fragment.{edge_table}
-use Rattle.rc_fragment.specs.FragmentRows.{FragmentRows}
-use Rattle.rc_fragment.specs.Keep.{IsAtRest, KeptRows, at_rest, kept_rows}
-use Rattle.rc_core.specs.declared.state.Hold.{Hold}
-use Rattle.rc_core.specs.declared.state.PassState.{PassState}
-use Rattle.rc_core.specs.State.{hold, held_in, shares_of, stripes_in, writes_of}
-use Rattle.rc_core.specs.Passes.{rows_of_hold}
-use Rattle.rc_core.specs.ListLaws.{in_stripes_in, stripes_have}
-use Rattle.rc_spec.specs.declared.lock.Mode.TheVariants.{Exclusive, Shared}
-use Rattle.atomic_table.specs.Table.{rest}
-use Rattle.rc_row.specs.declared.law.View.{View}
-use Rattle.rc_row.specs.declared.pass.Pass.TheInside.{Inside}
-use Rattle.rc_row.specs.HeldRows.{HeldRows}
-use Rattle.rc_row.specs.declared.law.Key.{Key}
-use Rattle.rc_row.specs.declared.slot.Slot.TheVariants.{Empty}
-use Rattle.rc_row.specs.Law.{IsOwn, Slot, kept_of, own_place, slot_place, spec_by, standing_of}
-use Rattle.rc_row.specs.Own.{hand_out, hands_out, own_hands, pointer_in, turned_times}
-use Rattle.rc_row.specs.PassInside.{IsWholePass, pass_seen}
-use Rattle.rc_row.specs.Passes.{OfHeld, PassSeen, core_of, held_without, holds_taken}
-use Rattle.rc_row.specs.Told.{MayLeave}
-use Rattle.rc_row.specs.Turns.{IsHeldAt}
+use Rattle.rc_row.proofs.Imports.{IfSome, remove, nat_cmp, eq-eqb, ne_eqb, map-append, All-get_or, In, IsRising, in_append, Mode, EdgeRow, Spec, edge_table, FragmentRows, IsAtRest, KeptRows, at_rest, kept_rows, Hold, PassState, hold, held_in, shares_of, stripes_in, writes_of, rows_of_hold, in_stripes_in, stripes_have, Exclusive, Shared, rest, View, Inside, HeldRows, Key, Empty, IsOwn, Slot, kept_of, own_place, slot_place, spec_by, standing_of, hand_out, hands_out, own_hands, pointer_in, turned_times, IsWholePass, pass_seen, OfHeld, PassSeen, core_of, held_without, holds_taken, MayLeave, IsHeldAt}
+use Rattle.std.specs.List.{All}
 use Rattle.rc_row.proofs.OwnLemmas.{behind_owns}
 use Rattle.rc_row.proofs.TurnLemmas.{place_inside, read_here, turned_first}
 use Rattle.rc_row.proofs.ChangeLemmas.{gone_here, not_after, removed_here}

@@ -1,39 +1,9 @@
 -- Taking and freeing a latch keep the rule.
 use Rattle.std.proofs.Common.{◌≡◌, ◌≢◌, ℕ, suc, ◌-◌, ◌<◌, ◌≤◌, ◌==◌, Bool, true, false, List, ◌∷◌, length, get_or, set, Option, Some, None, sym, refl, ap, ◌∙◌, subst, inl, inr, arith, length-set}
-use Rattle.std.specs.Prelude.{slice_index}
-use Rattle.std.specs.List.{slice_get}
-use Rattle.std.proofs.lemmas.Bool.{cases_eq, false≢true, eq-eqb, ne_eqb, eqb-true, eqb-false}
-use Rattle.std.proofs.lemmas.List.{get_or-set_same, get_or-set_other, set-get_or}
+use Rattle.rc_row.proofs.Imports.{slice_index, slice_get, cases_eq, false≢true, eq-eqb, ne_eqb, eqb-true, eqb-false, get_or-set_same, get_or-set_other, set-get_or, has, In, EdgeRow, Latch, Shared, prefix_same, CoreState, PassState, Keeper, Home, stripe_at, has_writer, pass_at, shares_of, with_pass, other_holds, rows_of_hold, IsGoodPass, each_changed, good_home, shares_held, rows_of_it, State, step, Act, keeps, takes, gives, stepped, Allows, Valid, carried_after, set_here, set_else, Key, Standing, View, Handed, HasHanded, IsOwnHome, OwnsAre, Slot, lodged, own_place, compiled_by, kept_of, spec_by, stripes_by, slot_place, stripe_word, latch_word, word_of, view_of, pass_view, HasLatch, HomesAre, IsKept, home_of, RowStep, TakeLatch, MissLatch, FreeLatch, CanStep, after_step, pass_of, refusal_of, row_state, refusal_at, good_of, state_of, latched_out, found_in_latch, HasLatched, IsLatchedOut, LatchesOrNot, ToldAtLatch, ToldAtUnlatch}
 use mathlib.Core.Option.{some, none}
 use lib.ListN.{get_elem?}
 use prog.Atomic.{either}
-use Rattle.rc_tuple.specs.ColSet.{has}
-use Rattle.rc_tuple.specs.RisingSet.{In}
-use Rattle.rc_spec.specs.Fragments.{EdgeRow}
-use Rattle.rc_spec.specs.declared.lock.Found.TheVariants.{Latch}
-use Rattle.rc_spec.specs.declared.lock.Mode.TheVariants.{Shared}
-use Rattle.rc_rel.specs.PlaceLaws.{prefix_same}
-use Rattle.rc_core.specs.declared.state.CoreState.{CoreState}
-use Rattle.rc_core.specs.declared.state.PassState.{PassState}
-use Rattle.rc_core.specs.declared.state.Keeper.{Keeper}
-use Rattle.rc_core.specs.declared.state.Keeper.TheVariants.{Home}
-use Rattle.rc_core.specs.State.{stripe_at, has_writer, pass_at, shares_of}
-use Rattle.rc_core.specs.Events.{with_pass}
-use Rattle.rc_core.specs.Passes.{other_holds, rows_of_hold}
-use Rattle.rc_core.specs.Good.{IsGoodPass}
-use Rattle.rc_core.specs.ListLaws.{each_changed}
-use Rattle.rc_core.specs.KeepsLaws.{good_home, shares_held, rows_of_it}
-use Rattle.atomic_table.specs.Table.{State, step, Act, keeps, takes, gives, stepped, Allows, Valid, carried_after}
-use Rattle.atomic_table.proofs.Lists.{set_here, set_else}
-use Rattle.rc_row.specs.declared.law.Key.{Key}
-use Rattle.rc_row.specs.declared.law.Standing.{Standing}
-use Rattle.rc_row.specs.declared.law.View.{View}
-use Rattle.rc_row.specs.declared.slot.Slot.TheVariants.{Handed}
-use Rattle.rc_row.specs.Law.{HasHanded, IsOwnHome, OwnsAre, Slot, lodged, own_place, compiled_by, kept_of, spec_by, stripes_by, slot_place, stripe_word, latch_word, word_of, view_of, pass_view, HasLatch, HomesAre, IsKept, home_of}
-use Rattle.rc_row.specs.Run.{RowStep, TakeLatch, MissLatch, FreeLatch, CanStep, after_step, pass_of, refusal_of, row_state, refusal_at}
-use Rattle.rc_row.specs.RunLaws.{good_of, state_of}
-use Rattle.rc_row.specs.Standings.{latched_out}
-use Rattle.rc_row.specs.Told.{found_in_latch, HasLatched, IsLatchedOut, LatchesOrNot, ToldAtLatch, ToldAtUnlatch}
 use Rattle.rc_row.proofs.MoveLemmas.{Home?, Refuses, moved, its_core, its_known, its_latch, its_pass, its_place, still_core}
 use Rattle.rc_row.proofs.StripeLemmas.{by_true, by_false, home_is, there, latch_inside, commit_stays, few_stripes, its_handed, moved_alone, out_where, slot_home, slot_inside}
 use Rattle.rc_row.proofs.OwnRuleLemmas.{handed_at, handed_on, owns_alone, owns_on}

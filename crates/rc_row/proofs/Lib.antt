@@ -26,3 +26,4 @@ pub mod ShareLemmas
 pub mod GiveAllLemmas
 pub mod BackLemmas
 mod ResumingLemmas
+mod Imports

@@ -1,14 +1,8 @@
 -- What stands at a place of a list after it was set, and what is true of all elements.
 use Rattle.std.proofs.Common.{◌≡◌, ℕ, zero, suc, List, [], ◌∷◌, ◌++◌, length, set, take, drop, Some, ap, refl, sym, subst, arith, length-append}
-use Rattle.std.specs.Prelude.{All}
-use Rattle.std.specs.List.{slice_get}
-use Rattle.std.proofs.lemmas.List.Elements.{All-append}
-use Rattle.std.proofs.lemmas.Option.{get_or_from_slice_get}
-use Rattle.std.proofs.Math.Seq.{get_or-append_seam}
-use Rattle.std.proofs.lemmas.List.{get_or_append_left}
+use Rattle.rc_row.proofs.Imports.{All, slice_get, All-append, get_or_from_slice_get, get_or-append_seam, get_or_append_left, at_below}
 use mathlib.Core.Option.{some, some-ne-none}
 use lib.ListN.{get_elem?}
-use Rattle.rc_core.specs.KeepsLaws.{at_below}
 
 module _ {A : Type 0} where
   pub set_there : (l : List A) (i : ℕ) (a b : A) → get_elem? l i ≡ some b → get_elem? (set l i a) i ≡ some a

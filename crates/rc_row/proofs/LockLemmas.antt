@@ -1,39 +1,11 @@
 -- Locking a stripe to write it, and unlocking it, keep the rule.
 use Rattle.std.proofs.Common.{true, ◌≡◌, ◌≢◌, ℕ, suc, ◌*◌, ◌+◌, ◌-◌, ◌%◌, ◌^◌, ◌<◌, ◌≤◌, ◌==◌, Bool, false, List, ◌∷◌, ◌++◌, drop, length, get_or, set, Some, None, sym, refl, ap, ◌∙◌, subst, inl, inr, arith, length-set}
-use Rattle.std.specs.Prelude.{slice_index}
-use Rattle.std.specs.List.{slice_get}
-use Rattle.std.proofs.lemmas.Bool.{cases_eq, eq-eqb, ne_eqb}
-use Rattle.std.proofs.lemmas.List.{set-get_or, get_or-set_same, get_or-set_other}
+use Rattle.rc_row.proofs.Imports.{slice_index, slice_get, cases_eq, eq-eqb, ne_eqb, set-get_or, get_or-set_same, get_or-set_other, has, In, has_in, EdgeRow, Exclusive, Shared, CoreState, Home, Writer, PassState, StripeState, Keeper, has_writer, hold, home_rows, no_pass, pass_at, shares_of, stripe_at, writes_of, IsHigh, locked, blocked, released, rows_of_hold, with_pass, with_keeper, IsUnlocked, lock_keeps, State, step, Act, keeps, gives, stepped, Allows, Valid, carried_after, homes_after, Key, Standing, View, Empty, Apart, Slot, home_of, kept_of, lodged, own_place, spec_by, stripes_by, slot_place, stripe_word, writer_mark, pass_view, IsKept, own_hands, value_at, OfCore, found_at, row_state, refusal_at, good_of, KeepsOut, with_core, refused, found_in_word, HasLocked, IsLockedOut, LocksOrNot, ToldAtLock, ToldAtUnlock, passes_in, get_set_same, has-held_more, has-held_without_other, has-held_without_same, less_held, not_has}
 use mathlib.Core.Option.{some, none}
 use lib.ListN.{get_elem?}
 use prog.Atomic.{either}
-use Rattle.rc_tuple.specs.ColSet.{has}
-use Rattle.rc_tuple.specs.RisingSet.{In}
-use Rattle.rc_tuple.specs.RisingSetLaws.{has_in}
-use Rattle.rc_spec.specs.Fragments.{EdgeRow}
-use Rattle.rc_spec.specs.declared.lock.Mode.TheVariants.{Exclusive, Shared}
-use Rattle.rc_core.specs.declared.state.CoreState.{CoreState}
-use Rattle.rc_core.specs.declared.state.Keeper.TheVariants.{Home, Writer}
-use Rattle.rc_core.specs.declared.state.PassState.{PassState}
-use Rattle.rc_core.specs.declared.state.StripeState.{StripeState}
-use Rattle.rc_core.specs.declared.state.Keeper.{Keeper}
-use Rattle.rc_core.specs.State.{has_writer, hold, home_rows, no_pass, pass_at, shares_of, stripe_at, writes_of}
-use Rattle.rc_core.specs.Passes.{IsHigh, locked, blocked, released, rows_of_hold}
 use Rattle.rc_core.specs.declared.event.Event.TheVariants as event
-use Rattle.rc_core.specs.Events.{with_pass, with_keeper, IsUnlocked}
-use Rattle.rc_core.specs.KeepsLaws.{lock_keeps}
-use Rattle.atomic_table.specs.Table.{State, step, Act, keeps, gives, stepped, Allows, Valid, carried_after, homes_after}
-use Rattle.rc_row.specs.declared.law.Key.{Key}
-use Rattle.rc_row.specs.declared.law.Standing.{Standing}
-use Rattle.rc_row.specs.declared.law.View.{View}
-use Rattle.rc_row.specs.declared.slot.Slot.TheVariants.{Empty, Apart}
-use Rattle.rc_row.specs.Law.{Slot, home_of, kept_of, lodged, own_place, spec_by, stripes_by, slot_place, stripe_word, writer_mark, pass_view, IsKept}
-use Rattle.rc_row.specs.Own.{own_hands, value_at}
-use Rattle.rc_row.specs.Run.{OfCore, found_at, row_state, refusal_at}
-use Rattle.rc_row.specs.RunLaws.{good_of}
-use Rattle.rc_row.specs.Standings.{KeepsOut, with_core, refused}
-use Rattle.rc_row.specs.Told.{found_in_word, HasLocked, IsLockedOut, LocksOrNot, ToldAtLock, ToldAtUnlock, passes_in}
-use Rattle.rc_core.specs.ListLaws.{get_set_same, has-held_more, has-held_without_other, has-held_without_same, held_without, less_held, not_has}
+use Rattle.rc_core.specs.ListLaws.{held_without}
 use Rattle.rc_row.proofs.MoveLemmas.{Home?, its_core, its_known, its_pass, its_place}
 use Rattle.rc_row.proofs.StripeLemmas.{IsMade, by_true, by_false, has_one, home_is, free_word, mark_of_writer, keeps_writer_out, there, made, homes_with, no_latch, no_latch_written, slot_home, slot_inside, few_stripes, low, own_inside, pass_there, unshared, unshared_written, its_handed, moved_stripe, moved_alone, high_fewer, high_unwritten, taken_word, word_tells}
 use Rattle.rc_row.proofs.OwnLemmas.{behind_owns, carried_locked, carried_unlocked, homes_locked, homes_of_lock, homes_of_unlock, homes_unlocked, length-locked, length-unlocked, locked_else, locked_here, locked_own, locked_own_else, locking, unlocked_else, unlocked_here, unlocked_own, unlocked_own_else, unlocking, valid_given, valid_lock}

@@ -1,31 +1,8 @@
 -- One pass changes, at its own seat, and the rule is kept.
 use Rattle.std.proofs.Common.{◌≡◌, ◌≢◌, ℕ, suc, ◌<◌, ◌≤◌, ◌==◌, ◌||◌, Bool, true, false, List, [], ◌∷◌, ◌++◌, length, set, Option, Some, None, sym, ap, ◌∙◌, refl, subst, inl, inr, arith, length-set, length-append}
-use Rattle.std.specs.Prelude.{slice_index, slice_index_or}
-use Rattle.std.specs.List.{slice_get}
-use Rattle.std.proofs.lemmas.Bool.{cases_eq}
-use Rattle.std.proofs.lemmas.List.{append-nil, set-get_or}
-use Rattle.std.proofs.lemmas.Option.{get_or_from_slice_get}
+use Rattle.rc_row.proofs.Imports.{slice_index, slice_index_or, slice_get, cases_eq, append-nil, set-get_or, get_or_from_slice_get, Entry, IsPrefix, prefix_again, CoreState, PassState, StripeState, no_pass, pass_at, stripe_at, with_pass, at_below, get_set_same, get_set_other, State, at_set, set_else, Key, Refusal, Standing, View, Slot, compiled_by, spec_by, stripes_by, stripe_word, latch_word, word_of, view_of, at_first_by, AreKnown, AreSeatedAt, AreTold, HasHanded, HasLatch, HaveHanded, HaveLatch, IsTold, IsTrueView, has_pass, HasSeat, HomesAre, IsKept, OwnsAre, RowStep, CanStep, after_step, last_of, pass_of, refusal_of, refusal_where, refusals_in, row_state, can_go_on, goes_on, others_refusals, own_refusals, refusals_last, refusals_length, refusals_of, state_of}
 use mathlib.Core.Option.{some, some-injective, some-ne-none}
 use lib.ListN.{get_elem?}
-use Rattle.rc_rel.specs.declared.entry.Entry.{Entry}
-use Rattle.rc_rel.specs.History.{IsPrefix}
-use Rattle.rc_rel.specs.PlaceLaws.{prefix_again}
-use Rattle.rc_core.specs.declared.state.CoreState.{CoreState}
-use Rattle.rc_core.specs.declared.state.PassState.{PassState}
-use Rattle.rc_core.specs.declared.state.StripeState.{StripeState}
-use Rattle.rc_core.specs.State.{no_pass, pass_at, stripe_at}
-use Rattle.rc_core.specs.Events.{with_pass}
-use Rattle.rc_core.specs.KeepsLaws.{at_below}
-use Rattle.rc_core.specs.ListLaws.{get_set_same, get_set_other}
-use Rattle.atomic_table.specs.Table.{State}
-use Rattle.atomic_table.proofs.Lists.{at_set, set_else}
-use Rattle.rc_row.specs.declared.law.Key.{Key}
-use Rattle.rc_row.specs.declared.law.Refusal.{Refusal}
-use Rattle.rc_row.specs.declared.law.Standing.{Standing}
-use Rattle.rc_row.specs.declared.law.View.{View}
-use Rattle.rc_row.specs.Law.{Slot, compiled_by, spec_by, stripes_by, stripe_word, latch_word, word_of, view_of, at_first_by, AreKnown, AreSeatedAt, AreTold, HasHanded, HasLatch, HaveHanded, HaveLatch, IsTold, IsTrueView, has_pass, HasSeat, HomesAre, IsKept, OwnsAre}
-use Rattle.rc_row.specs.Run.{RowStep, CanStep, after_step, last_of, pass_of, refusal_of, refusal_where, refusals_in, row_state}
-use Rattle.rc_row.specs.RunLaws.{can_go_on, goes_on, others_refusals, own_refusals, refusals_last, refusals_length, refusals_of, state_of}
 use Rattle.rc_row.proofs.ListLemmas.{set_there}
 
 -- what was told of a history is so of a longer one

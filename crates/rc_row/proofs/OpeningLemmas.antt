@@ -1,48 +1,9 @@
 -- A new table keeps the rule.
 use Rattle.std.proofs.Common.{◌≡◌, ◌≢◌, ◌-◌, length-append, length-set, ℕ, zero, suc, ◌+◌, ◌*◌, ◌<◌, ◌≤◌, ◌==◌, Bool, false, List, [], ◌∷◌, ◌++◌, length, map, get_or, Some, None, sym, refl, ap, ◌∙◌, subst, inl, inr, arith}
-use Rattle.std.specs.Prelude.{slice_index, slice_set, replicate}
-use Rattle.std.specs.List.{filter_map, flat_map, slice_get, range_with_len}
-use Rattle.std.specs.Ordering.{nat_cmp}
-use Rattle.std.specs.Cmp.{nat_cmp_is}
-use Rattle.std.specs.declared.cmp.Ordering.TheVariants.{Less}
-use Rattle.std.proofs.lemmas.Bool.{false≢true, eq-eqb, ne_eqb}
-use Rattle.std.proofs.lemmas.List.{get_or-set_other, get_or-set_same, length-map, length-replicate}
-use Rattle.std.proofs.lemmas.Option.{get_or_from_slice_get}
-use Rattle.std.proofs.lemmas.List.FromFn.{length-map-range_with_len}
+use Rattle.rc_row.proofs.Imports.{slice_index, slice_set, replicate, filter_map, flat_map, slice_get, range_with_len, nat_cmp, nat_cmp_is, Less, false≢true, eq-eqb, ne_eqb, get_or-set_other, get_or-set_same, length-map, length-replicate, get_or_from_slice_get, length-map-range_with_len, has, In, IsRising, map_in, list_any_in, in_range_below, in_range_bounds, IsSealed, fragment_of, KeptRows, Entry, replay, prefix_same, placed_total, stripe_total, Spec, SpecWithPlans, ArePlansOf, IsCompiled, PassState, StripeState, MayGoOn, free_stripe, rested, resumed, made_there, stripe_of_range, no_pass, pass_at, shares_of, stripe_at, opening, at_map, Key, Standing, View, Apart, Empty, AreFirstSlots, spaced, kept_at, IsWholeRow, resumed_standing, told_of, Slot, kept_of, compiled_by, history_by, spec_by, stripes_by, own_place, slot_place, stripe_word, latch_word, word_of, starts, opener, numbers_in, at_first_by, AreKnown, AreSeatedAt, AreTold, HaveHanded, HaveLatch, IsOwnHome, IsTrueView, OwnsAre, home_of, HomesAre, IsKept}
 use mathlib.Core.Option.{some, some-injective, some-ne-none}
 use lib.ListN.{get_elem?}
-use Rattle.rc_tuple.specs.ColSet.{has}
-use Rattle.rc_tuple.specs.RisingSet.{In, IsRising}
-use Rattle.rc_tuple.specs.RisingSetLaws.{map_in}
-use Rattle.rc_tuple.specs.RelationLaws.{list_any_in}
-use Rattle.rc_tuple.specs.ColSetLaws.{in_range_below, in_range_bounds}
-use Rattle.rc_spec.specs.Acceptance.{IsSealed}
-use Rattle.rc_spec.specs.Fragments.{fragment_of}
-use Rattle.rc_fragment.specs.Keep.{KeptRows}
-use Rattle.rc_rel.specs.declared.entry.Entry.{Entry}
-use Rattle.rc_rel.specs.History.{replay}
-use Rattle.rc_rel.specs.PlaceLaws.{prefix_same}
-use Rattle.rc_spec.specs.PlacementLaws.{placed_total}
-use Rattle.rc_spec.specs.Stripes.{stripe_total}
-use Rattle.rc_spec.specs.declared.spec.Spec.{Spec}
-use Rattle.rc_plan.specs.Compiled.{SpecWithPlans, ArePlansOf, IsCompiled}
-use Rattle.rc_core.specs.declared.state.PassState.{PassState}
-use Rattle.rc_core.specs.declared.state.StripeState.{StripeState}
-use Rattle.rc_core.specs.Resumed.{MayGoOn, free_stripe, rested, resumed}
-use Rattle.rc_core.specs.ResumedLaws.{made_there, stripe_of_range}
-use Rattle.rc_core.specs.State.{no_pass, pass_at, shares_of, stripe_at}
-use Rattle.atomic_table.specs.Table.{opening}
-use Rattle.atomic_table.proofs.Lists.{at_map}
-use Rattle.rc_row.specs.declared.law.Key.{Key}
-use Rattle.rc_row.specs.declared.law.Standing.{Standing}
-use Rattle.rc_row.specs.declared.law.View.{View}
 use Rattle.rc_row.specs.declared.row.Row.TheInside.{Inside}
-use Rattle.rc_row.specs.declared.slot.Slot.TheVariants.{Apart, Empty}
-use Rattle.rc_row.specs.Rooms.{AreFirstSlots, spaced}
-use Rattle.rc_row.specs.Slots.{kept_at}
-use Rattle.rc_row.specs.RowInside.{IsWholeRow}
-use Rattle.rc_row.specs.Standings.{resumed_standing, told_of}
-use Rattle.rc_row.specs.Law.{Slot, kept_of, compiled_by, history_by, spec_by, stripes_by, own_place, slot_place, stripe_word, latch_word, word_of, starts, opener, numbers_in, at_first_by, AreKnown, AreSeatedAt, AreTold, HaveHanded, HaveLatch, IsOwnHome, IsTrueView, OwnsAre, home_of, HomesAre, IsKept}
 
 -- each place of a list of equal elements, and each beyond it
 same_there : {A : Type 0} → (n p : ℕ) (a : A) → get_or (replicate n a) p a ≡ a

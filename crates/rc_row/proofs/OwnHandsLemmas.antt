@@ -1,11 +1,6 @@
 -- How the slots that a pass has out are turned, where a stripe that it writes or shares is taken, emptied or given back.
 use Rattle.std.proofs.Common.{◌≡◌, ℕ, zero, suc, List, [], ◌∷◌, ◌++◌, length, take, drop, refl, sym, ap, ◌∙◌, append_assoc}
-use Rattle.std.proofs.lemmas.List.{append-nil}
-use Rattle.atomic_table.specs.Table.{turned}
-use Rattle.rc_row.specs.HeldRows.{HeldRows}
-use Rattle.rc_row.specs.Law.{Slot, own_place, slot_place}
-use Rattle.rc_row.specs.Own.{hand_out, hands_out, own_hands, turned_times}
-use Rattle.rc_row.specs.Turns.{IsHeldAt}
+use Rattle.rc_row.proofs.Imports.{append-nil, turned, HeldRows, Slot, own_place, slot_place, hand_out, hands_out, own_hands, turned_times, IsHeldAt}
 use Rattle.rc_row.proofs.OwnLemmas.{emptying}
 
 -- ---- turning

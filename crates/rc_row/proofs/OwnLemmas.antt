@@ -1,12 +1,8 @@
 -- Taking, emptying and giving back the own slots of all passes at one stripe.
 use Rattle.std.proofs.Common.{◌≡◌, ◌≢◌, ℕ, zero, suc, ◌-◌, ◌<◌, List, [], ◌∷◌, ◌++◌, length, set, take, drop, refl, sym, ap, ◌∙◌, inl, inr, arith, length-set, append_assoc}
-use Rattle.std.proofs.lemmas.Bool.{cases_eq}
+use Rattle.rc_row.proofs.Imports.{cases_eq, Act, Valid, carried_after, chain, gives, homes_after, takes, turned, set_here, set_else, own_place, slot_place, give_owns, own_hands, take_owns, with_owns, without_owns}
 use mathlib.Core.Option.{some, none}
 use lib.ListN.{get_elem?}
-use Rattle.atomic_table.specs.Table.{Act, Valid, carried_after, chain, gives, homes_after, takes, turned}
-use Rattle.atomic_table.proofs.Lists.{set_here, set_else}
-use Rattle.rc_row.specs.Law.{own_place, slot_place}
-use Rattle.rc_row.specs.Own.{give_owns, own_hands, take_owns, with_owns, without_owns}
 
 abbrev Homes : Type 0 → Type 0
 Homes S = List (mathlib.Core.Option.Option S)

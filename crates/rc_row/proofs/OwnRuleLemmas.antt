@@ -1,26 +1,8 @@
 -- What the steps of a row do to the rule of own slots.
 use Rattle.std.proofs.Common.{◌≡◌, ◌≢◌, ℕ, ◌<◌, ◌≤◌, ◌⊎◌, Bool, true, false, List, length, get_or, set, Option, Some, None, refl, sym, ap, ◌∙◌, subst, inl, inr, arith, length-set}
-use Rattle.std.proofs.lemmas.Bool.{cases_eq, eq-eqb, false≢true, ne_eqb}
-use Rattle.std.proofs.lemmas.List.{get_or-set_same, get_or-set_other}
+use Rattle.rc_row.proofs.Imports.{cases_eq, eq-eqb, false≢true, ne_eqb, get_or-set_same, get_or-set_other, set_here, set_else, In, has, EdgeRow, Spec, KeptRows, Entry, CoreState, Keeper, Home, Writer, PassState, StripeState, no_pass, no_stripe, pass_at, shares_of, stripe_at, with_pass, Empty, Apart, Handed, HasHanded, IsOwn, IsOwnHome, OwnsAre, Slot, kept_of, own_place, Slot?, value_at, value_of}
 use mathlib.Core.Option.{some, none}
 use lib.ListN.{get_elem?}
-use Rattle.atomic_table.proofs.Lists.{set_here, set_else}
-use Rattle.rc_tuple.specs.RisingSet.{In}
-use Rattle.rc_tuple.specs.ColSet.{has}
-use Rattle.rc_spec.specs.Fragments.{EdgeRow}
-use Rattle.rc_spec.specs.declared.spec.Spec.{Spec}
-use Rattle.rc_fragment.specs.Keep.{KeptRows}
-use Rattle.rc_rel.specs.declared.entry.Entry.{Entry}
-use Rattle.rc_core.specs.declared.state.CoreState.{CoreState}
-use Rattle.rc_core.specs.declared.state.Keeper.{Keeper}
-use Rattle.rc_core.specs.declared.state.Keeper.TheVariants.{Home, Writer}
-use Rattle.rc_core.specs.declared.state.PassState.{PassState}
-use Rattle.rc_core.specs.declared.state.StripeState.{StripeState}
-use Rattle.rc_core.specs.State.{no_pass, no_stripe, pass_at, shares_of, stripe_at}
-use Rattle.rc_core.specs.Events.{with_pass}
-use Rattle.rc_row.specs.declared.slot.Slot.TheVariants.{Empty, Apart, Handed}
-use Rattle.rc_row.specs.Law.{HasHanded, IsOwn, IsOwnHome, OwnsAre, Slot, kept_of, own_place}
-use Rattle.rc_row.specs.Own.{Slot?, value_at, value_of}
 
 abbrev Homes : Type 0
 Homes = List (mathlib.Core.Option.Option Slot)

@@ -1,42 +1,12 @@
 -- Counting a reader in and out keeps the rule.
 use Rattle.std.proofs.Common.{◌≡◌, ◌≢◌, ℕ, ◌+◌, ◌-◌, ◌%◌, ◌^◌, ◌<◌, ◌≤◌, ◌==◌, ◌⊎◌, Bool, true, false, not, List, ◌∷◌, length, get_or, set, Option, Some, None, sym, refl, ap, ◌∙◌, subst, inl, inr, arith, length-set}
-use Rattle.std.specs.Prelude.{slice_index}
-use Rattle.std.specs.List.{slice_get}
-use Rattle.std.proofs.lemmas.Bool.{cases_eq, eq-eqb, false≢true, ne_eqb}
+use Rattle.rc_row.proofs.Imports.{slice_index, slice_get, cases_eq, eq-eqb, false≢true, ne_eqb, has, In, EdgeRow, Spec, Shared, CoreState, Keeper, Home, Writer, PassState, StripeState, has_writer, hold, is_at, pass_at, stripe_at, home_rows, shares_of, IsHigh, counted_in, shared, back, released, rows_of_hold, with_pass, with_counted, without_counted, IsGoodPass, above_itself, good_home, rows_of_it, share_takes, shares_held, high_uncounted, turning_counted, sharing_counted, State, step, Act, gives, keeps, takes, stepped, Allows, Valid, carried_after, Key, Standing, View, Empty, Apart, Handed, value_at, HasHanded, IsOwn, OwnsAre, Slot, own_place, slot_place, view_of, spec_by, stripes_by, stripe_word, writer_mark, word_of, pass_view, IsKept, found_at, found_by, refused_reader, refusal_at, good_of, KeepsOut, with_core, turned_by, found_in_word, HasEntered, HasTurned, EntersOrTurns, lacking, ToldAtEnter, ToldAtBack, ToldAtLeave, get_set_same, has-held_end, has-held_more, has-held_without_other, has-held_without_same, length-put_new, length-all_but, less_held, not_has, set_else}
 use mathlib.Core.Option.{some, none}
 use lib.ListN.{get_elem?}
-use Rattle.rc_tuple.specs.ColSet.{has}
-use Rattle.rc_tuple.specs.RisingSet.{In}
-use Rattle.rc_spec.specs.Fragments.{EdgeRow}
-use Rattle.rc_spec.specs.declared.spec.Spec.{Spec}
-use Rattle.rc_spec.specs.declared.lock.Mode.TheVariants.{Shared}
-use Rattle.rc_core.specs.declared.state.CoreState.{CoreState}
-use Rattle.rc_core.specs.declared.state.Keeper.{Keeper}
-use Rattle.rc_core.specs.declared.state.Keeper.TheVariants.{Home, Writer}
-use Rattle.rc_core.specs.declared.state.PassState.{PassState}
-use Rattle.rc_core.specs.declared.state.StripeState.{StripeState}
-use Rattle.rc_core.specs.State.{has_writer, hold, is_at, pass_at, stripe_at, home_rows, shares_of}
-use Rattle.rc_core.specs.Passes.{IsHigh, counted_in, shared, back, released, rows_of_hold}
 use Rattle.rc_core.specs.declared.event.Event.TheVariants as event
-use Rattle.rc_core.specs.Events.{with_pass, with_counted, without_counted}
-use Rattle.rc_core.specs.Good.{IsGoodPass}
-use Rattle.rc_core.specs.KeepsLaws.{above_itself, good_home, rows_of_it, share_takes, shares_held}
-use Rattle.rc_core.specs.AgreeLaws.{high_uncounted, turning_counted, sharing_counted}
-use Rattle.atomic_table.specs.Table.{State, step, Act, gives, keeps, takes, stepped, Allows, Valid, carried_after}
-use Rattle.rc_row.specs.declared.law.Key.{Key}
-use Rattle.rc_row.specs.declared.law.Standing.{Standing}
-use Rattle.rc_row.specs.declared.law.View.{View}
-use Rattle.rc_row.specs.declared.slot.Slot.TheVariants.{Empty, Apart, Handed}
-use Rattle.rc_row.specs.Own.{value_at}
-use Rattle.rc_row.specs.Law.{HasHanded, IsOwn, OwnsAre, Slot, own_place, slot_place, view_of, spec_by, stripes_by, stripe_word, writer_mark, word_of, pass_view, IsKept}
-use Rattle.rc_row.specs.Run.{found_at, found_by, refused_reader, refusal_at}
-use Rattle.rc_row.specs.RunLaws.{good_of}
-use Rattle.rc_row.specs.Standings.{KeepsOut, with_core, turned_by}
-use Rattle.rc_row.specs.Told.{found_in_word, HasEntered, HasTurned, EntersOrTurns, lacking, ToldAtEnter, ToldAtBack, ToldAtLeave}
-use Rattle.rc_core.specs.ListLaws.{get_set_same, has-held_end, has-held_more, has-held_without_other, has-held_without_same, held_without, length-put_new, length-all_but, less_held, not_has}
+use Rattle.rc_core.specs.ListLaws.{held_without}
 use Rattle.rc_row.proofs.MoveLemmas.{Home?, Refuses, its_core, its_known, its_pass, its_place}
 use Rattle.rc_row.proofs.StripeLemmas.{IsMade, by_true, by_false, has_one, home_is, unwritten_word, keeps_reader_out, there, made, few_stripes, homes_stay, its_handed, low, own_inside, moved_stripe, high_unwritten, word_tells, written_word}
-use Rattle.atomic_table.proofs.Lists.{set_else}
 use Rattle.rc_row.proofs.OwnRuleLemmas.{handed_entered, handed_found, own_home, own_value, owns_entered, owns_left, owns_stay, still_own}
 
 -- what counting a reader in owes, where the number found in the word becomes n

@@ -1,35 +1,6 @@
 -- A row that goes on from what another has left.
 use Rattle.std.proofs.Common.{◌≡◌, ℕ, zero, suc, ◌+◌, ◌*◌, ◌-◌, ◌<◌, ◌≤◌, ◌^◌, List, [], ◌∷◌, ◌++◌, Some, drop, length, length-append, map, min, refl, sym, ap, subst, ◌∙◌, arith}
-use Rattle.std.specs.Prelude.{replicate, slice_set}
-use Rattle.std.specs.List.{filter_map, flat_map, range_with_len, slice_get, sum, sum_by}
-use Rattle.std.proofs.lemmas.List.{append_assoc, length-replicate}
-use Rattle.std.proofs.lemmas.List.Sums.{sum_by-cons}
-use Rattle.std.proofs.lemmas.Option.{same_Some}
-use Rattle.rc_spec.specs.Acceptance.{IsSealed}
-use Rattle.rc_spec.specs.FragmentsLaws.{empty_law}
-use Rattle.rc_spec.specs.PlacementLaws.{placed_total}
-use Rattle.rc_spec.specs.Stripes.{stripe_total}
-use Rattle.rc_spec.specs.declared.spec.Spec.{Spec}
-use Rattle.rc_fragment.specs.Keep.{KeptRows}
-use Rattle.rc_plan.specs.Compiled.{SpecWithPlans, ArePlansOf, IsCompiled}
-use Rattle.rc_rel.specs.declared.entry.Entry.{Entry}
-use Rattle.rc_rel.specs.History.{own_placed}
-use Rattle.rc_rel.specs.SharesLaws.{shares_add_up}
-use Rattle.rc_core.specs.Resumed.{MayGoOn, resumed}
-use Rattle.rc_core.specs.ResumedLaws.{resumed_good}
-use Rattle.rc_core.specs.SizeLaws.{history_law}
-use Rattle.atomic_table.specs.Table.{opening}
-use Rattle.rc_row.specs.declared.close.EndedPass.{EndedPass}
-use Rattle.rc_row.specs.declared.keeping.Keeping.{Keeping}
-use Rattle.rc_row.specs.declared.keeping.Keeping.TheVariants.{Counts, Entries}
-use Rattle.rc_row.specs.declared.law.Key.{Key}
-use Rattle.rc_row.specs.declared.slot.Slot.TheVariants.{Empty}
-use Rattle.rc_row.specs.Ended.{IsEndedOf, IsLeftOf, no_entries, resumed_from}
-use Rattle.rc_row.specs.Law.{IsKept, Slot, compiled_by, history_by, kept_of, opener, spec_by, stripes_by}
-use Rattle.rc_row.specs.Passes.{KeepsAs, PassSeen, RowSeen, new_pass, resumed_pass}
-use Rattle.rc_row.specs.Rooms.{AreFirstSlots, spaced}
-use Rattle.rc_row.specs.Slots.{kept_at}
-use Rattle.rc_row.specs.Standings.{resumed_standing}
+use Rattle.rc_row.proofs.Imports.{replicate, slice_set, filter_map, flat_map, range_with_len, slice_get, sum, sum_by, append_assoc, length-replicate, sum_by-cons, same_Some, IsSealed, empty_law, placed_total, stripe_total, Spec, KeptRows, SpecWithPlans, ArePlansOf, IsCompiled, Entry, own_placed, shares_add_up, MayGoOn, resumed, resumed_good, history_law, opening, EndedPass, Keeping, Counts, Entries, Key, Empty, IsEndedOf, IsLeftOf, no_entries, resumed_from, IsKept, Slot, compiled_by, history_by, kept_of, opener, spec_by, stripes_by, KeepsAs, PassSeen, RowSeen, new_pass, resumed_pass, AreFirstSlots, spaced, kept_at, resumed_standing}
 use Rattle.rc_row.proofs.OpeningLemmas.{compiled_key, first_slots, fragments_in, opens, words_of_key}
 
 -- ---- how long the history is

@@ -1,35 +1,9 @@
 -- Splitting and joining seats keep the rule.
 use Rattle.std.proofs.Common.{◌≡◌, ◌≢◌, ℕ, zero, suc, ◌<◌, ◌≤◌, ◌==◌, ◌||◌, ◌⊎◌, Bool, false, List, [], ◌∷◌, ◌++◌, length, set, Some, None, if◌then◌else◌, sym, refl, ap, ◌∙◌, subst, inl, inr, arith}
-use Rattle.std.specs.List.{slice_get}
-use Rattle.std.specs.Ordering.{nat_cmp}
-use Rattle.std.specs.declared.cmp.Ordering.TheVariants.{Less}
-use Rattle.std.proofs.lemmas.Bool.{cases_eq, false≢true, eq-eqb, ne_eqb, eqb-true, or_left, or_right}
-use Rattle.std.specs.Cmp.{nat_cmp_is}
-use Rattle.std.proofs.lemmas.Cmp.{ranked}
-use Rattle.std.proofs.lemmas.List.{map-append}
-use Rattle.std.proofs.lemmas.List.Elements.{All-append}
-use Rattle.std.proofs.lemmas.List.Folds.{list_any-append}
+use Rattle.rc_row.proofs.Imports.{slice_get, nat_cmp, Less, cases_eq, false≢true, eq-eqb, ne_eqb, eqb-true, or_left, or_right, nat_cmp_is, ranked, map-append, All-append, list_any-append, In, IsRising, Entry, IsPrefix, PassState, learned, or_false, rising_end, with_pass, State, Splits, Joins, at_set, set_else, set_again, at_longer, at_last, Key, Refusal, Standing, View, Slot, pass_view, note_view, passes_view, numbers_in, AreKnown, AreSeatedAt, AreTold, HasHanded, HasLatch, HaveHanded, HaveLatch, IsTold, IsTrueView, has_pass, HasSeat, IsKept, RowState, OfCore, row_state, good_of, refusals_of, state_of, after_learn, undealt, dealt, noted, informed, gathered, spent}
 use mathlib.Core.Option.{some, some-injective, some-ne-none}
 use lib.ListN.{get_elem?}
-use Rattle.rc_tuple.specs.RisingSet.{In, IsRising}
-use Rattle.rc_rel.specs.declared.entry.Entry.{Entry}
-use Rattle.rc_rel.specs.History.{IsPrefix}
-use Rattle.rc_core.specs.declared.state.PassState.{PassState}
-use Rattle.rc_core.specs.Passes.{learned}
-use Rattle.rc_core.specs.ListLaws.{or_false, rising_end}
 use Rattle.rc_core.specs.declared.event.Event.TheVariants as event
-use Rattle.rc_core.specs.Events.{with_pass}
-use Rattle.atomic_table.specs.Table.{State, Splits, Joins}
-use Rattle.atomic_table.proofs.Lists.{at_set, set_else, set_again, at_longer, at_last}
-use Rattle.rc_row.specs.declared.law.Key.{Key}
-use Rattle.rc_row.specs.declared.law.Refusal.{Refusal}
-use Rattle.rc_row.specs.declared.law.Standing.{Standing}
-use Rattle.rc_row.specs.declared.law.View.{View}
-use Rattle.rc_row.specs.Law.{Slot, pass_view, note_view, passes_view, numbers_in, AreKnown, AreSeatedAt, AreTold, HasHanded, HasLatch, HaveHanded, HaveLatch, IsTold, IsTrueView, has_pass, HasSeat, IsKept}
-use Rattle.rc_row.specs.Run.{RowState, OfCore, row_state}
-use Rattle.rc_row.specs.RunLaws.{good_of, refusals_of, state_of}
-use Rattle.rc_row.specs.Standings.{after_learn}
-use Rattle.rc_row.specs.Seats.{undealt, dealt, noted, informed, gathered, spent}
 use Rattle.rc_row.proofs.ListLemmas.{set_there}
 use Rattle.rc_row.proofs.MoveLemmas.{its_core, its_known, its_pass, its_place}
 use Rattle.rc_row.proofs.StripeLemmas.{moved_alone}

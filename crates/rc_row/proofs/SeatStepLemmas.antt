@@ -2,22 +2,8 @@
 use Rattle.std.proofs.Common.{◌≡◌, ℕ, suc, ◌+◌, ◌-◌, ◌%◌, ◌^◌, ◌<◌, ◌==◌, List, [], ◌∷◌, ◌++◌, drop, Option, Some, None, sym, ap, ◌∙◌, subst, arith}
 use mathlib.Core.Option.{none}
 use prog.Atomic.{either}
-use Rattle.rc_tuple.specs.RisingSet.{In}
-use Rattle.rc_rel.specs.declared.entry.Entry.{Entry}
-use Rattle.rc_core.specs.State.{writes_of, shares_of}
-use Rattle.rc_core.specs.Passes.{IsHigh, MayCommit, rows_of_hold}
-use Rattle.atomic_table.specs.Seated.{TableId}
-use Rattle.atomic_table.specs.Table.{Me, Step, step, Allows, Splits, Joins, rest}
-use Rattle.rc_row.specs.declared.law.Key.{Key}
-use Rattle.rc_row.specs.declared.law.View.{View}
+use Rattle.rc_row.proofs.Imports.{In, Entry, writes_of, shares_of, IsHigh, MayCommit, rows_of_hold, TableId, Me, Step, step, Allows, Splits, Joins, rest, Key, View, Apart, Empty, Handed, own_hands, slot_place, Slot, kept_of, stripes_by, stripe_word, latch_word, view_of, pass_view, note_view, passes_view, numbers_in, standing_of, IsKept, RowSeen, compiled_of, spec_of, stripes_of, IsWholeRow, row_seen, undealt, dealt, noted, informed, gathered, spent, MayLeave, ToldAtLock, ToldAtUnlock, ToldAtEnter, ToldAtBack, ToldAtLeave, ToldAtLatch, ToldAtUnlatch, ToldAtCommit, ToldAtLook}
 use Rattle.rc_row.specs.declared.row.Row.TheInside.{Inside}
-use Rattle.rc_row.specs.declared.slot.Slot.TheVariants.{Apart, Empty, Handed}
-use Rattle.rc_row.specs.Own.{own_hands}
-use Rattle.rc_row.specs.Law.{slot_place, Slot, kept_of, stripes_by, stripe_word, latch_word, view_of, pass_view, note_view, passes_view, numbers_in, standing_of, IsKept}
-use Rattle.rc_row.specs.Passes.{RowSeen, compiled_of, spec_of, stripes_of}
-use Rattle.rc_row.specs.RowInside.{IsWholeRow, row_seen}
-use Rattle.rc_row.specs.Seats.{undealt, dealt, noted, informed, gathered, spent}
-use Rattle.rc_row.specs.Told.{MayLeave, ToldAtLock, ToldAtUnlock, ToldAtEnter, ToldAtBack, ToldAtLeave, ToldAtLatch, ToldAtUnlatch, ToldAtCommit, ToldAtLook}
 use Rattle.rc_row.proofs.LockLemmas.{locks, unlocks}
 use Rattle.rc_row.proofs.ReaderLemmas.{enters, backs, leaves}
 use Rattle.rc_row.proofs.LatchLemmas.{latches, unlatches}

@@ -1,37 +1,6 @@
 -- A pass after a commit: it is whole again, and is of its row.
 use Rattle.std.proofs.Common.{◌≡◌, ℕ, ◌+◌, ◌<◌, List, [], ◌∷◌, ◌++◌, length, map, Option, Some, None, sym, refl, ap, ◌∙◌, subst, arith, add-one, length-append}
-use Rattle.std.specs.Ordering.{nat_cmp}
-use Rattle.std.proofs.lemmas.List.Elements.{All-map}
-use Rattle.rc_tuple.specs.RisingSet.{IsRising}
-use Rattle.rc_spec.specs.declared.lock.Mode.{Mode}
-use Rattle.rc_spec.specs.declared.lock.Mode.TheVariants.{Shared, Exclusive}
-use Rattle.rc_spec.specs.declared.spec.Spec.{Spec}
-use Rattle.rc_spec.specs.Fragments.{EdgeRow}
-use Rattle.rc_plan.specs.Compiled.{SpecWithPlans}
-use Rattle.rc_fragment.specs.Fragment.{edge_table}
-use Rattle.rc_fragment.specs.FragmentRows.{settled}
-use Rattle.rc_journal.specs.PartEntries.{PartEntries}
-use Rattle.rc_rel.specs.declared.entry.Entry.{Entry}
-use Rattle.rc_rel.specs.declared.entry.Placed.{Placed}
-use Rattle.rc_rel.specs.History.{placed}
-use Rattle.rc_core.specs.declared.state.Hold.{Hold}
-use Rattle.rc_core.specs.State.{hold, stripes_in}
-use Rattle.rc_core.specs.Good.{IsOfHistory}
-use Rattle.rc_core.specs.Passes.{committed, renewed, renewed_as, rows_then}
-use Rattle.atomic_table.specs.Seated.{TableId}
-use Rattle.atomic_table.specs.Table.{Me}
-use Rattle.rc_row.specs.declared.keeping.Keeping.{Keeping}
-use Rattle.rc_row.specs.declared.keeping.Keeping.TheVariants.{Entries, Counts}
-use Rattle.rc_row.specs.declared.law.Standing.{Standing}
-use Rattle.rc_row.specs.declared.pass.Pass.TheInside.{Inside}
-use Rattle.rc_row.specs.HeldRows.{HeldRows}
-use Rattle.rc_row.specs.declared.law.View.{View}
-use Rattle.rc_row.specs.Law.{Slot, pass_view, standing_of}
-use Rattle.rc_row.specs.Own.{hands_out}
-use Rattle.rc_row.specs.PassInside.{AreOwnKept, IsWholePass, pass_seen}
-use Rattle.rc_row.specs.Passes.{HasAdded, IsPassOf, compiled_of, KeepsAs, PassSeen, RowSeen, all_with, core_of, holds_now, holds_taken, spec_of, stripes_of, with_commit, with_entry, with_fragment}
-use Rattle.rc_row.specs.Standings.{HaveOneRelation, IsAtHistory, after_entry}
-use Rattle.rc_row.specs.Told.{HasCommitted, passes_in}
+use Rattle.rc_row.proofs.Imports.{nat_cmp, All-map, IsRising, Mode, Shared, Exclusive, Spec, EdgeRow, SpecWithPlans, edge_table, settled, PartEntries, Entry, Placed, placed, Hold, hold, stripes_in, IsOfHistory, committed, renewed, renewed_as, rows_then, TableId, Me, Keeping, Entries, Counts, Standing, Inside, HeldRows, View, Slot, pass_view, standing_of, hands_out, AreOwnKept, IsWholePass, pass_seen, HasAdded, IsPassOf, compiled_of, KeepsAs, PassSeen, RowSeen, all_with, core_of, holds_now, holds_taken, spec_of, stripes_of, with_commit, with_entry, with_fragment, HaveOneRelation, IsAtHistory, after_entry, HasCommitted, passes_in}
 use Rattle.rc_row.proofs.AgreeLemmas.{agrees_as}
 use Rattle.rc_row.proofs.ChangeLemmas.{hands-with}
 

@@ -1,27 +1,8 @@
 -- What a reader's steps come to.
 use Rattle.std.proofs.Common.{◌≡◌, ℕ, suc, List, [], ◌∷◌, ◌++◌, Option, Some, None, true, sym, refl, ap, ◌∙◌, subst, inl}
-use Rattle.rc_tuple.specs.RisingSet.{In}
-use Rattle.rc_tuple.specs.RisingSetLaws.{append_in_right}
-use Rattle.rc_spec.specs.declared.lock.Found.TheVariants.{Latch}
-use Rattle.rc_spec.specs.declared.lock.Mode.TheVariants.{Shared}
-use Rattle.rc_spec.specs.Fragments.{EdgeRow}
-use Rattle.std.proofs.lemmas.Bool.{ne_eqb}
-use Rattle.rc_core.specs.declared.state.PassState.{PassState}
-use Rattle.rc_core.specs.State.{hold, shares_of}
-use Rattle.rc_core.specs.Passes.{IsAbove, released, rows_of_hold, shared}
-use Rattle.rc_core.specs.ListLaws.{other-end, rows-end, stripes_in_have}
-use Rattle.rc_row.specs.declared.law.Standing.{Standing}
-use Rattle.rc_row.specs.declared.law.View.{View}
-use Rattle.rc_row.specs.Law.{IsOwn, Slot, kept_in, kept_of, lodged, own_place, pass_view, slot_place, spec_by, standing_of, view_of}
-use Rattle.rc_row.specs.declared.law.Key.{Key}
-use Rattle.rc_row.specs.declared.slot.Slot.TheVariants.{Empty, Handed}
-use Rattle.rc_row.specs.Told.{HasEntered, HasLatched, HasLeft, HasUnlatched, IsLatchedOut, MayLeave, found_in_latch, lacking}
-use Rattle.rc_row.specs.Own.{HasInFront}
-use Rattle.rc_fragment.specs.Keep.{KeptRows}
+use Rattle.rc_row.proofs.Imports.{In, append_in_right, Latch, Shared, EdgeRow, ne_eqb, PassState, hold, shares_of, IsAbove, released, rows_of_hold, shared, other-end, rows-end, stripes_in_have, Standing, View, IsOwn, Slot, kept_in, kept_of, lodged, own_place, pass_view, slot_place, spec_by, standing_of, view_of, Key, Empty, Handed, HasEntered, HasLatched, HasLeft, HasUnlatched, IsLatchedOut, MayLeave, found_in_latch, lacking, HasInFront, KeptRows, Me, rest, HaveOneRelation, latched_out, turned_away, with_core, without_wish}
 use Rattle.rc_row.proofs.AloneLemmas.{in_front, same_kept}
 use Rattle.rc_row.proofs.GiveLemmas.{may_leave}
-use Rattle.atomic_table.specs.Table.{Me, rest}
-use Rattle.rc_row.specs.Standings.{HaveOneRelation, latched_out, turned_away, with_core, without_wish}
 
 -- a pass that has just come to share the stripe
 module _ (s : Standing) (p : ℕ) (rows : List EdgeRow) (above : IsAbove s.core p) (v : View) (lacks : Option ℕ) (view : v ≡ view_of (with_core s (shared s.core p rows)) None lacks) where

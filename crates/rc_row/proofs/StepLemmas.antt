@@ -1,30 +1,6 @@
 -- A pass after a step: it is whole again, and is of its row.
 use Rattle.std.proofs.Common.{◌≡◌, ℕ, ◌<◌, ◌==◌, List, [], ◌∷◌, ◌++◌, length, not, Option, None, sym, refl, ap, ◌∙◌, subst, arith}
-use Rattle.std.specs.Prelude.{vec_capacity}
-use Rattle.std.specs.Ordering.{nat_cmp}
-use Rattle.std.proofs.lemmas.List.Elements.{All-filter, All-push}
-use Rattle.rc_tuple.specs.RisingSet.{IsRising}
-use Rattle.rc_tuple.specs.RisingSetLaws.{rising_filter}
-use Rattle.rc_spec.specs.declared.lock.Mode.{Mode}
-use Rattle.rc_spec.specs.declared.spec.Spec.{Spec}
-use Rattle.rc_spec.specs.Fragments.{EdgeRow}
-use Rattle.rc_fragment.specs.Fragment.{edge_table}
-use Rattle.rc_journal.specs.PartEntries.{PartEntries}
-use Rattle.rc_rel.specs.declared.entry.Placed.{Placed}
-use Rattle.rc_core.specs.declared.state.Hold.{Hold}
-use Rattle.rc_core.specs.State.{stripes_in}
-use Rattle.rc_core.specs.Passes.{IsAbove, other_holds, took, released}
-use Rattle.rc_core.specs.ListLaws.{stripes-other}
-use Rattle.atomic_table.specs.Seated.{TableId}
-use Rattle.rc_row.specs.declared.law.Standing.{Standing}
-use Rattle.rc_row.specs.declared.pass.Pass.TheInside.{Inside}
-use Rattle.rc_row.specs.HeldRows.{HeldRows, just_held}
-use Rattle.rc_row.specs.Law.{kept_of, pass_view, standing_of}
-use Rattle.rc_row.specs.PassInside.{AreOwnKept, IsWholePass, pass_seen}
-use Rattle.rc_row.specs.Own.{hand_out, hands_out}
-use Rattle.rc_row.specs.Told.{passes_in}
-use Rattle.rc_row.specs.Passes.{IsPassOf, PassSeen, RowSeen, held_without, holds_taken, spec_of, stripes_of, with_taken, without_stripe}
-use Rattle.rc_row.specs.Standings.{with_core}
+use Rattle.rc_row.proofs.Imports.{vec_capacity, nat_cmp, All-filter, All-push, IsRising, rising_filter, Mode, Spec, EdgeRow, edge_table, PartEntries, Placed, Hold, stripes_in, IsAbove, other_holds, took, released, stripes-other, TableId, Standing, Inside, HeldRows, just_held, kept_of, pass_view, standing_of, AreOwnKept, IsWholePass, pass_seen, hand_out, hands_out, passes_in, IsPassOf, PassSeen, RowSeen, held_without, holds_taken, spec_of, stripes_of, with_taken, without_stripe, with_core}
 use Rattle.rc_row.proofs.AgreeLemmas.{agrees_as, agrees_taken}
 use Rattle.rc_row.proofs.ChangeLemmas.{taken-without}
 use Rattle.rc_row.proofs.OwnHandsLemmas.{hands_out-append}

@@ -1,47 +1,8 @@
 -- What the table shows of a stripe, and the changes of one pass that leave the latches alone.
 use Rattle.std.proofs.Common.{◌≡◌, ◌≢◌, ℕ, zero, suc, ◌*◌, ◌+◌, ◌-◌, ◌/◌, ◌%◌, ◌<◌, ◌≤◌, ◌==◌, ◌||◌, ◌⊎◌, Bool, true, false, List, [], ◌∷◌, length, get_or, set, Option, Some, None, if◌then◌else◌, sym, refl, ap, ◌∙◌, subst, inl, inr, arith, length-set}
-use Rattle.std.specs.Prelude.{slice_index, MatchBool}
-use Rattle.std.specs.List.{slice_get}
-use Rattle.std.proofs.lemmas.Bool.{cases_eq, false≢true, eq-eqb, ne_eqb, eqb-true, eqb-false}
-use Rattle.std.proofs.lemmas.List.{get_or-set_same, get_or-set_other}
+use Rattle.rc_row.proofs.Imports.{slice_index, MatchBool, slice_get, cases_eq, false≢true, eq-eqb, ne_eqb, eqb-true, eqb-false, get_or-set_same, get_or-set_other, In, put, in_put, nat_order, rising_put, has, EdgeRow, placed_total, Pass, Readers, Shared, Exclusive, Spec, Entry, states_are_relations, states_satisfy, replay_in_states, replay, prefix_same, CoreState, Keeper, Home, Writer, PassState, StripeState, stripe_at, no_stripe, has_writer, is_writer, home_rows, pass_at, shares_of, writes_of, is_at, IsHigh, Event, after, with_pass, IsAllowed, IsTaken, IsUnlocked, IsGood, IsGoodKeeper, each_changed, length-put_new, not_has, nat_cmp, above_itself, at_below, writes_held, high_uncounted, sharing_counted, few_tuples, few_counted, length-rising, State, Key, Standing, View, Slot, spec_by, stripes_by, slot_place, stripe_word, latch_word, writer_mark, word_of, pass_view, view_of, lodged, own_place, AreKnown, HasHanded, OwnsAre, AreSeatedAt, HasLatch, HaveLatch, compiled_by, has_pass, home_of, HomesAre, IsKept, RowStep, OfCore, CanStep, after_step, found_at, found_by, pass_of, pass_of_event, refusal_of, refusal_of_event, row_state, good_of, state_of, KeepsOut, HaveOneRelation, found_in_word}
 use mathlib.Core.Option.{some, none}
 use lib.ListN.{get_elem?}
-use Rattle.rc_tuple.specs.RisingSet.{In, put}
-use Rattle.rc_tuple.specs.RisingSetLaws.{in_put, nat_order, rising_put}
-use Rattle.rc_tuple.specs.ColSet.{has}
-use Rattle.rc_spec.specs.Fragments.{EdgeRow}
-use Rattle.rc_spec.specs.PlacementLaws.{placed_total}
-use Rattle.rc_spec.specs.declared.lock.Found.TheVariants.{Pass, Readers}
-use Rattle.rc_spec.specs.declared.lock.Mode.TheVariants.{Shared, Exclusive}
-use Rattle.rc_spec.specs.declared.spec.Spec.{Spec}
-use Rattle.rc_rel.specs.declared.entry.Entry.{Entry}
-use Rattle.rc_rel.specs.HistoryLaws.{states_are_relations, states_satisfy, replay_in_states}
-use Rattle.rc_rel.specs.History.{replay}
-use Rattle.rc_rel.specs.PlaceLaws.{prefix_same}
-use Rattle.rc_core.specs.declared.state.CoreState.{CoreState}
-use Rattle.rc_core.specs.declared.state.Keeper.{Keeper}
-use Rattle.rc_core.specs.declared.state.Keeper.TheVariants.{Home, Writer}
-use Rattle.rc_core.specs.declared.state.PassState.{PassState}
-use Rattle.rc_core.specs.declared.state.StripeState.{StripeState}
-use Rattle.rc_core.specs.State.{stripe_at, no_stripe, has_writer, is_writer, home_rows, pass_at, shares_of, writes_of, is_at}
-use Rattle.rc_core.specs.Passes.{IsHigh}
-use Rattle.rc_core.specs.declared.event.Event.{Event}
-use Rattle.rc_core.specs.Events.{after, with_pass, IsAllowed, IsTaken, IsUnlocked}
-use Rattle.rc_core.specs.Good.{IsGood, IsGoodKeeper}
-use Rattle.rc_core.specs.ListLaws.{each_changed, length-put_new, not_has}
-use Rattle.std.specs.Ordering.{nat_cmp}
-use Rattle.rc_core.specs.KeepsLaws.{above_itself, at_below, writes_held}
-use Rattle.rc_core.specs.AgreeLaws.{high_uncounted, sharing_counted}
-use Rattle.rc_core.specs.SizeLaws.{few_tuples, few_counted, length-rising}
-use Rattle.atomic_table.specs.Table.{State}
-use Rattle.rc_row.specs.declared.law.Key.{Key}
-use Rattle.rc_row.specs.declared.law.Standing.{Standing}
-use Rattle.rc_row.specs.declared.law.View.{View}
-use Rattle.rc_row.specs.Law.{Slot, spec_by, stripes_by, slot_place, stripe_word, latch_word, writer_mark, word_of, pass_view, view_of, lodged, own_place, AreKnown, HasHanded, OwnsAre, AreSeatedAt, HasLatch, HaveLatch, compiled_by, has_pass, home_of, HomesAre, IsKept}
-use Rattle.rc_row.specs.Run.{RowStep, OfCore, CanStep, after_step, found_at, found_by, pass_of, pass_of_event, refusal_of, refusal_of_event, row_state}
-use Rattle.rc_row.specs.RunLaws.{good_of, state_of}
-use Rattle.rc_row.specs.Standings.{KeepsOut, HaveOneRelation}
-use Rattle.rc_row.specs.Told.{found_in_word}
 use Rattle.rc_row.proofs.MoveLemmas.{Home?, Refuses, moved, its_core, its_pass, its_place, its_latch}
 use Rattle.rc_row.proofs.OwnRuleLemmas.{handed_less, owns_alone}
 

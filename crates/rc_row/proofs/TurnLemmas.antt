@@ -1,22 +1,6 @@
 -- Where the fragment of a held stripe is, and what turning the slots of a seat does.
 use Rattle.std.proofs.Common.{◌≡◌, ℕ, zero, suc, ◌+◌, ◌<◌, ◌==◌, Bool, List, [], ◌∷◌, ◌++◌, length, get_or, take, drop, sym, refl, ap, ◌∙◌, subst, inl, inr, cond, arith, length-append}
-use Rattle.std.specs.declared.cmp.Ordering.TheVariants.{Less}
-use Rattle.std.specs.Ordering.{nat_cmp}
-use Rattle.std.proofs.lemmas.Bool.{cases_eq, eq-eqb, ne_eqb}
-use Rattle.std.proofs.lemmas.Cmp.{ranked}
-use Rattle.std.proofs.lemmas.List.{append-nil, take_more, length-take-le, take-append-drop}
-use Rattle.std.proofs.Math.Seq.{drop-cons, get_or-append_seam}
-use Rattle.rc_tuple.specs.RisingSet.{In, IsRising}
-use Rattle.rc_tuple.specs.RisingSetLaws.{get_or_in, map_in}
-use Rattle.rc_spec.specs.declared.lock.Mode.TheVariants.{Exclusive}
-use Rattle.rc_core.specs.State.{hold, stripes_in}
-use Rattle.rc_core.specs.ListLaws.{stripes_have}
-use Rattle.rc_row.specs.HeldRows.{HeldRows}
-use Rattle.rc_row.specs.declared.slot.Slot.TheVariants.{Empty}
-use Rattle.rc_row.specs.Law.{Slot}
-use Rattle.rc_row.specs.Own.{hand_out, hands_out, own_hands, turned_times}
-use Rattle.rc_row.specs.Passes.{holds_taken}
-use Rattle.rc_row.specs.Turns.{IsHeldAt}
+use Rattle.rc_row.proofs.Imports.{Less, nat_cmp, cases_eq, eq-eqb, ne_eqb, ranked, append-nil, take_more, length-take-le, take-append-drop, drop-cons, get_or-append_seam, In, IsRising, get_or_in, map_in, Exclusive, hold, stripes_in, stripes_have, HeldRows, Empty, Slot, hand_out, hands_out, own_hands, turned_times, holds_taken, IsHeldAt}
 use Rattle.rc_row.proofs.OwnHandsLemmas.{hands_out-append, out_first, out_last}
 
 nothing : (slots : List (ℕ × Slot)) → length slots ≡ 0 → slots ≡ []

@@ -1,12 +1,6 @@
 -- A pass while it waits.
 use Rattle.std.proofs.Common.{◌≡◌, ℕ, suc, ◌+◌, arith, Option, Some, None, sym, refl, ap, ◌∙◌, subst}
-use Rattle.std.specs.Prelude.{IfSome}
-use Rattle.rc_spec.specs.declared.lock.Found.{Found}
-use Rattle.rc_spec.specs.declared.lock.Mode.{Mode}
-use Rattle.rc_core.specs.Passes.{IsAbove}
-use Rattle.rc_row.specs.declared.law.Standing.{Standing}
-use Rattle.rc_row.specs.Passes.{HasWaited, PassSeen, core_of, waited_so, with_standing}
-use Rattle.rc_row.specs.Standings.{KeepsOut, turned_away, wish_after}
+use Rattle.rc_row.proofs.Imports.{IfSome, Found, Mode, IsAbove, Standing, HasWaited, PassSeen, core_of, waited_so, with_standing, KeepsOut, turned_away, wish_after}
 
 pub waited_first : (mode : Mode) (passes p : ℕ) (old : PassSeen) → HasWaited mode passes p old old
 waited_first mode passes p old = record { steps = None; is = refl; found = tt }

@@ -1,29 +1,7 @@
 -- What a whole pass shows, and when a pass is whole after a change of what it holds.
 use Rattle.std.proofs.Common.{◌≡◌, ℕ, suc, ◌+◌, ◌*◌, ◌<◌, ◌≤◌, List, [], ◌∷◌, length, sym, refl, ap, ◌∙◌, subst, inl, inr, arith}
-use Rattle.std.proofs.lemmas.List.{length-map}
-use Rattle.rc_core.specs.SizeLaws.{length-rising}
-use Rattle.std.specs.Global.{Vec}
-use Rattle.std.specs.Prelude.{All, vec_capacity, vec_len, Result, Ok, Err, OnOk, OnErr}
-use Rattle.std.specs.Ordering.{nat_cmp}
-use Rattle.rc_tuple.specs.RisingSet.{In, IsRising}
-use Rattle.rc_core.specs.declared.state.Hold.{Hold}
-use Rattle.rc_core.specs.State.{hold, stripes_in, writes_of, shares_of}
-use Rattle.rc_core.specs.Passes.{IsAbove, IsHigh}
-use Rattle.rc_core.specs.KeepsLaws.{writes_held, shares_held}
-use Rattle.atomic_table.specs.Seated.{TableId}
-use Rattle.rc_row.specs.declared.held.HeldFragment.{HeldFragment}
-use Rattle.rc_row.specs.declared.pass.Pass.TheInside.{Inside}
-use Rattle.rc_row.specs.HeldRows.{HeldRows}
-use Rattle.rc_row.specs.Law.{standing_of}
-use Rattle.rc_row.specs.Own.{hands_out}
-use Rattle.rc_row.specs.PassInside.{IsWholePass, pass_seen}
-use Rattle.rc_row.specs.RowInside.{IsWholeRow, row_seen}
-use Rattle.rc_row.specs.Told.{passes_in}
+use Rattle.rc_row.proofs.Imports.{length-map, length-rising, Vec, All, vec_capacity, vec_len, Result, Ok, Err, OnOk, OnErr, nat_cmp, In, IsRising, Hold, hold, stripes_in, writes_of, shares_of, IsAbove, IsHigh, writes_held, shares_held, TableId, HeldFragment, Inside, HeldRows, standing_of, hands_out, IsWholePass, pass_seen, IsWholeRow, row_seen, passes_in, ArePartlyAddedOn, IsPassOf, OfHeld, PassSeen, RowSeen, core_of, held_with, holds_taken, stripes_of, Pairs, FragmentRows, changed_by}
 use Rattle.rc_row.specs.declared.row.Row.TheInside.{Inside as RowInside}
-use Rattle.rc_row.specs.Passes.{ArePartlyAddedOn, IsPassOf, OfHeld, PassSeen, RowSeen, core_of, held_with, holds_taken, stripes_of}
-use Rattle.rc_tuple.specs.Tuple.{Pairs}
-use Rattle.rc_fragment.specs.FragmentRows.{FragmentRows}
-use Rattle.rc_fragment.specs.Tuples.{changed_by}
 use Rattle.rc_row.proofs.AgreeLemmas.{agrees_same, few_held, high_at}
 use Rattle.rc_row.proofs.ChangeLemmas.{hands-held_with, taken-held_with}
 

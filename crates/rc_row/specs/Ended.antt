@@ -1,16 +1,6 @@
 -- What the end of a row gives.
 use Rattle.std.specs.Prelude.{◌≡◌, ℕ, suc, ◌*◌, ◌<◌, ◌≤◌, ◌^◌, List, [], ◌∷◌, Option, Some, length}
-use Rattle.std.specs.List.{slice_get}
-use Rattle.rc_spec.specs.Fragments.{fragment_of}
-use Rattle.rc_spec.specs.Stripes.{stripe_total}
-use Rattle.rc_spec.specs.declared.spec.Spec.{Spec}
-use Rattle.rc_fragment.specs.Keep.{KeptRows}
-use Rattle.rc_journal.specs.PartEntries.{PartEntries}
-use Rattle.rc_rel.specs.declared.entry.Entry.{Entry}
-use Rattle.rc_rel.specs.declared.entry.Placed.{Placed}
-use Rattle.rc_rel.specs.History.{own_placed, replay}
-use Rattle.rc_core.specs.Good.{IsGoodHistory}
-use Rattle.rc_core.specs.Resumed.{MayGoOn}
+use Rattle.rc_row.specs.Imports.{slice_get, fragment_of, stripe_total, Spec, KeptRows, PartEntries, Entry, Placed, own_placed, replay, IsGoodHistory, MayGoOn}
 use Rattle.rc_row.specs.declared.close.EndedPass.{EndedPass}
 use Rattle.rc_row.specs.Law.{AreKnown, kept_of}
 use Rattle.rc_row.specs.PassInside.{AreOwnKept}

@@ -1,33 +1,12 @@
 -- What a step of a pass makes of the core's state.
 use Rattle.std.proofs.Common.{◌≡◌, ◌≢◌, ℕ, ◌+◌, ◌*◌, ◌<◌, ◌||◌, ◌==◌, Bool, true, false, List, [], ◌∷◌, length, get_or, set, Option, Some, None, sym, refl, ap, ◌∙◌, subst, inl, inr, arith, length-set}
-use Rattle.std.specs.Prelude.{slice_index}
-use Rattle.std.specs.List.{slice_get}
+use Rattle.rc_row.specs.Imports.{slice_index, slice_get, In, append_in_right, slice_get_in, Exclusive, EdgeRow, fragment_of, Entry, own_placed, replay, same_places, stands_in_other, PassState, Event, Keeper, Home, Writer, StripeState, has_writer, hold, home_rows, no_pass, pass_at, stripe_at, IsHigh, locked, IsAllowed, IsUnlocked, after, at_below, good_home, get_set_same, get_set_other, events_keep, pass_there, passes_determine, State}
 use Rattle.std.proofs.lemmas.Bool.{cases_eq, false≢true, ne_eqb, eqb-true}
 use Rattle.std.proofs.lemmas.List.{ext_get_or, get_or-set_same, get_or-set_other}
 use Rattle.std.proofs.lemmas.Option.{get_or_from_slice_get}
 use mathlib.Core.Option.{some}
 use lib.ListN.{get_elem?}
-use Rattle.rc_tuple.specs.RisingSet.{In}
-use Rattle.rc_tuple.specs.RisingSetLaws.{append_in_right, slice_get_in}
-use Rattle.rc_spec.specs.declared.lock.Mode.TheVariants.{Exclusive}
-use Rattle.rc_spec.specs.Fragments.{EdgeRow, fragment_of}
-use Rattle.rc_rel.specs.declared.entry.Entry.{Entry}
-use Rattle.rc_rel.specs.History.{own_placed, replay}
-use Rattle.rc_rel.specs.OwnLaws.{same_places, stands_in_other}
-use Rattle.rc_core.specs.declared.state.PassState.{PassState}
-use Rattle.rc_core.specs.declared.event.Event.{Event}
 use Rattle.rc_core.specs.declared.event.Event.TheVariants as event
-use Rattle.rc_core.specs.declared.state.Keeper.{Keeper}
-use Rattle.rc_core.specs.declared.state.Keeper.TheVariants.{Home, Writer}
-use Rattle.rc_core.specs.declared.state.StripeState.{StripeState}
-use Rattle.rc_core.specs.State.{has_writer, hold, home_rows, no_pass, pass_at, stripe_at}
-use Rattle.rc_core.specs.Passes.{IsHigh, locked}
-use Rattle.rc_core.specs.Events.{IsAllowed, IsUnlocked, after}
-use Rattle.rc_core.specs.KeepsLaws.{at_below, good_home}
-use Rattle.rc_core.specs.ListLaws.{get_set_same, get_set_other}
-use Rattle.rc_core.specs.RunLaws.{events_keep, pass_there}
-use Rattle.rc_core.specs.DetermineLaws.{passes_determine}
-use Rattle.atomic_table.specs.Table.{State}
 use Rattle.atomic_table.proofs.Lists.{at_set}
 use Rattle.rc_row.specs.declared.law.Key.{Key}
 use Rattle.rc_row.specs.declared.law.Standing.{Standing}

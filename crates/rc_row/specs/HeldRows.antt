@@ -1,7 +1,5 @@
 -- What is seen of a fragment that a pass holds.
-use Rattle.std.specs.Prelude.{ℕ}
-use Rattle.rc_spec.specs.declared.lock.Mode.{Mode}
-use Rattle.rc_fragment.specs.Keep.{KeptRows, at_rest}
+use Rattle.rc_row.specs.Imports.{ℕ, Mode, KeptRows, at_rest}
 use Rattle.rc_row.specs.declared.held.HeldFragment.{HeldFragment}
 
 -- a held stripe, how it is held, and its fragment as it is

@@ -1,7 +1,5 @@
 -- What contracts see of a history.
-use Rattle.std.specs.Prelude.{List, []}
-use Rattle.std.specs.Option.{option_map_or}
-use Rattle.rc_rel.specs.declared.entry.Entry.{Entry}
+use Rattle.rc_row.specs.Imports.{List, [], option_map_or, Entry}
 use Rattle.rc_row.specs.declared.history.History.TheInside.{Inside}
 use Rattle.rc_row.specs.HistoryMade.{made_by}
 

@@ -1,7 +1,5 @@
 -- The history that passes have made.
-use Rattle.std.specs.Prelude.{List, map}
-use Rattle.rc_rel.specs.declared.entry.Entry.{Entry}
-use Rattle.rc_journal.specs.HistoryWith.{history_with}
+use Rattle.rc_row.specs.Imports.{List, map, Entry, history_with}
 use Rattle.rc_row.specs.declared.law.Standing.{Standing}
 
 -- their own entries, each at its place

@@ -1,27 +1,8 @@
 -- The rule of the table: words, latches, homes and views show a run of the core, and the state that it leads to.
 use Rattle.std.specs.Prelude.{◌≡◌, ℕ, suc, ◌+◌, ◌*◌, ◌<◌, ◌≤◌, ◌==◌, Bool, true, false, List, [], ◌∷◌, length, map, slice_index, get_or, Option, Some, None, All}
-use Rattle.std.specs.List.{slice_get, list_any, range_with_len}
-use Rattle.std.specs.Ordering.{nat_cmp}
+use Rattle.rc_row.specs.Imports.{slice_get, list_any, range_with_len, nat_cmp, has, In, IsRising, EdgeRow, stripe_total, Spec, edge_table, KeptRows, SpecWithPlans, IsCompiled, Entry, IsPrefix, CoreState, Keeper, Home, Writer, PassState, StripeState, MayGoOn, stripe_at, pass_at, shares_of, is_at, State}
 use mathlib.Core.Option.{some, none}
 use lib.ListN.{get_elem?}
-use Rattle.rc_tuple.specs.ColSet.{has}
-use Rattle.rc_tuple.specs.RisingSet.{In, IsRising}
-use Rattle.rc_spec.specs.Fragments.{EdgeRow}
-use Rattle.rc_spec.specs.Stripes.{stripe_total}
-use Rattle.rc_spec.specs.declared.spec.Spec.{Spec}
-use Rattle.rc_fragment.specs.Fragment.{edge_table}
-use Rattle.rc_fragment.specs.Keep.{KeptRows}
-use Rattle.rc_plan.specs.Compiled.{SpecWithPlans, IsCompiled}
-use Rattle.rc_rel.specs.declared.entry.Entry.{Entry}
-use Rattle.rc_rel.specs.History.{IsPrefix}
-use Rattle.rc_core.specs.declared.state.CoreState.{CoreState}
-use Rattle.rc_core.specs.declared.state.Keeper.{Keeper}
-use Rattle.rc_core.specs.declared.state.Keeper.TheVariants.{Home, Writer}
-use Rattle.rc_core.specs.declared.state.PassState.{PassState}
-use Rattle.rc_core.specs.declared.state.StripeState.{StripeState}
-use Rattle.rc_core.specs.Resumed.{MayGoOn}
-use Rattle.rc_core.specs.State.{stripe_at, pass_at, shares_of, is_at}
-use Rattle.atomic_table.specs.Table.{State}
 use Rattle.rc_row.specs.declared.law.Key.{Key}
 use Rattle.rc_row.specs.declared.law.Refusal.{Refusal}
 use Rattle.rc_row.specs.declared.law.Standing.{Standing}

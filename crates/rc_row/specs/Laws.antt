@@ -2,13 +2,7 @@
 use Rattle.std.specs.Prelude.{◌≡◌, ℕ, List}
 use mathlib.Core.Option.{some}
 use lib.ListN.{get_elem?}
-use Rattle.rc_tuple.specs.RisingSet.{In}
-use Rattle.rc_spec.specs.Fragments.{fragment_of}
-use Rattle.rc_rel.specs.History.{IsPrefix, replay}
-use Rattle.rc_core.specs.Events.{AreAllowed, after_all}
-use Rattle.rc_core.specs.Resumed.{resumed}
-use Rattle.rc_core.specs.Waits.{IsCircleOfWaits}
-use Rattle.atomic_table.specs.Table.{Me, State}
+use Rattle.rc_row.specs.Imports.{In, fragment_of, IsPrefix, replay, AreAllowed, after_all, resumed, IsCircleOfWaits, Me, State}
 use Rattle.rc_row.specs.declared.law.Key.{Key}
 use Rattle.rc_row.specs.declared.law.Refusal.{Refusal}
 use Rattle.rc_row.specs.declared.law.View.{View}

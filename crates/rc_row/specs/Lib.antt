@@ -21,3 +21,4 @@ pub mod EventLaws
 pub mod HistoryMade
 pub mod HistoryInside
 pub mod Slots
+pub mod Imports

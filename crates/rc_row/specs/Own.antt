@@ -2,10 +2,7 @@
 use Rattle.std.specs.Prelude.{◌≡◌, ℕ, zero, suc, ◌<◌, Bool, false, List, [], ◌∷◌, ◌++◌, set, Option, Some, None}
 use mathlib.Core.Option.{some, none}
 use lib.ListN.{get_elem?}
-use Rattle.rc_spec.specs.declared.lock.Mode.{Mode}
-use Rattle.rc_spec.specs.declared.lock.Mode.TheVariants.{Shared, Exclusive}
-use Rattle.rc_fragment.specs.Keep.{KeptRows}
-use Rattle.atomic_table.specs.Table.{Act, keeps, takes, gives, chain, rest, turned}
+use Rattle.rc_row.specs.Imports.{Mode, Shared, Exclusive, KeptRows, Act, keeps, takes, gives, chain, rest, turned}
 use Rattle.rc_row.specs.HeldRows.{HeldRows}
 use Rattle.rc_row.specs.declared.slot.Slot.TheVariants.{Empty, Handed}
 use Rattle.rc_row.specs.Law.{Slot, kept_in, own_place, slot_place}

@@ -1,11 +1,6 @@
 -- What a pass keeps.
 use Rattle.std.specs.Prelude.{◌≡◌, ℕ, ◌+◌, ◌*◌, ◌<◌, ◌≤◌, List, length, Option, Some, None, vec_capacity}
-use Rattle.std.specs.Ordering.{nat_cmp}
-use Rattle.rc_tuple.specs.RisingSet.{IsRising}
-use Rattle.rc_rel.specs.declared.entry.Placed.{Placed}
-use Rattle.rc_journal.specs.PartEntries.{PartEntries}
-use Rattle.rc_core.specs.State.{stripes_in}
-use Rattle.atomic_table.specs.Table.{Me}
+use Rattle.rc_row.specs.Imports.{nat_cmp, IsRising, Placed, PartEntries, stripes_in, Me}
 use Rattle.rc_row.specs.declared.law.View.{View}
 use Rattle.rc_row.specs.declared.pass.Pass.TheInside.{Inside}
 use Rattle.rc_row.specs.HeldRows.{HeldRows}

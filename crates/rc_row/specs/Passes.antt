@@ -1,34 +1,12 @@
 -- What clauses see of a row, a pass and a note, and what the calls of a row make of a pass.
 use Rattle.std.specs.Prelude.{◌≡◌, ℕ, suc, ◌+◌, ◌*◌, IfSome, ◌-◌, ◌<◌, ◌≤◌, ◌^◌, ◌==◌, not, List, [], ◌∷◌, ◌++◌, map, filter, length, Option, Some, None, All, IsSome, cond}
-use Rattle.std.specs.List.{range_with_len}
-use Rattle.rc_tuple.specs.Tuple.{Pairs}
-use Rattle.rc_spec.specs.declared.call.Call.{Call}
-use Rattle.rc_spec.specs.declared.lock.Mode.{Mode}
-use Rattle.rc_spec.specs.declared.call.Reply.{Reply}
-use Rattle.rc_spec.specs.declared.spec.Spec.{Spec}
-use Rattle.rc_spec.specs.Fragments.{EdgeRow}
-use Rattle.rc_plan.specs.Compiled.{SpecWithPlans}
-use Rattle.rc_fragment.specs.Fragment.{HasColumns, HasNoRowOf, HasRowOf, edge_row, edge_table}
-use Rattle.rc_fragment.specs.FragmentRows.{FragmentRows, rolled_back, settled}
-use Rattle.rc_fragment.specs.Keep.{IsAtRest}
-use Rattle.rc_fragment.specs.Tuples.{ArePartlyAdded, CanAddTuple, HasTuple, IsFirstKept, changed_by, changes_of_class}
-use Rattle.rc_journal.specs.PartEntries.{PartEntries}
-use Rattle.rc_rel.specs.declared.entry.Entry.{Entry}
-use Rattle.rc_rel.specs.declared.entry.Placed.{Placed}
-use Rattle.rc_rel.specs.History.{placed}
-use Rattle.rc_core.specs.declared.state.Hold.{Hold}
-use Rattle.rc_core.specs.declared.state.PassState.{PassState}
-use Rattle.rc_core.specs.State.{hold}
-use Rattle.rc_core.specs.Good.{IsOfHistory}
-use Rattle.rc_core.specs.Passes.{next_of, took, released}
-use Rattle.atomic_table.specs.Seated.{TableId}
+use Rattle.rc_row.specs.Imports.{range_with_len, Pairs, Call, Mode, Reply, Spec, EdgeRow, SpecWithPlans, HasColumns, HasNoRowOf, HasRowOf, edge_row, edge_table, FragmentRows, rolled_back, settled, IsAtRest, ArePartlyAdded, CanAddTuple, HasTuple, IsFirstKept, changed_by, changes_of_class, PartEntries, Entry, Placed, placed, Hold, PassState, hold, IsOfHistory, next_of, took, released, TableId, Found}
 use Rattle.rc_row.specs.declared.law.Key.{Key}
 use Rattle.rc_row.specs.declared.law.Standing.{Standing}
 use Rattle.rc_row.specs.declared.keeping.Keeping.{Keeping}
 use Rattle.rc_row.specs.declared.keeping.Keeping.TheVariants.{Entries, Counts}
 use Rattle.rc_row.specs.HeldRows.{HeldRows, just_held}
 use Rattle.rc_row.specs.Law.{compiled_by, history_by, spec_by, stripes_by, kept_of}
-use Rattle.rc_spec.specs.declared.lock.Found.{Found}
 use Rattle.rc_row.specs.Standings.{HaveOneRelation, IsAtHistory, KeepsOut, after_entry, after_learn, after_look, resumed_standing, start, wish_after, with_core}
 
 -- ---- what is seen

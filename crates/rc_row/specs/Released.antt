@@ -1,8 +1,6 @@
 -- What giving stripes back asks.
 use Rattle.std.specs.Prelude.{◌≡◌, ℕ, List}
-use Rattle.rc_tuple.specs.RisingSet.{In}
-use Rattle.rc_spec.specs.declared.lock.Mode.{Mode}
-use Rattle.rc_fragment.specs.FragmentRows.{FragmentRows}
+use Rattle.rc_row.specs.Imports.{In, Mode, FragmentRows}
 use Rattle.rc_row.specs.HeldRows.{HeldRows}
 
 -- the stripe is held in this mode

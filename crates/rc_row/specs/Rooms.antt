@@ -2,12 +2,7 @@
 use Rattle.std.specs.Prelude.{◌≡◌, ℕ, ◌+◌, ◌*◌, ◌<◌, ◌≤◌, List, [], ◌∷◌, All, length, vec_capacity}
 use mathlib.Core.Option.{some}
 use lib.ListN.{get_elem?}
-use Rattle.rc_spec.specs.declared.spec.Spec.{Spec}
-use Rattle.rc_spec.specs.Fragments.{fragment_of}
-use Rattle.rc_fragment.specs.Keep.{KeptRows}
-use Rattle.rc_rel.specs.declared.entry.Entry.{Entry}
-use Rattle.rc_rel.specs.History.{replay}
-use Rattle.std.specs.Global.{Vec}
+use Rattle.rc_row.specs.Imports.{Spec, fragment_of, KeptRows, Entry, replay, Vec}
 use Rattle.rc_row.specs.declared.held.HeldFragment.{HeldFragment}
 use Rattle.rc_row.specs.declared.slot.Slot.TheVariants.{Apart, Empty}
 use Rattle.rc_row.specs.Law.{Slot, kept_of, own_place, slot_place}

@@ -1,24 +1,8 @@
 -- The run of a row: the steps that its passes have made on the table, each an event of the core or a step at a latch, which leaves the
 -- core's state.
 use Rattle.std.specs.Prelude.{◌≡◌, ◌≢◌, ℕ, suc, ◌-◌, ◌==◌, Bool, true, false, List, [], ◌∷◌, ◌++◌, length, replicate, set, slice_index, Option, Some, None}
-use Rattle.rc_spec.specs.Stripes.{stripe_total}
-use Rattle.rc_spec.specs.declared.lock.Found.{Found}
-use Rattle.rc_spec.specs.declared.lock.Found.TheVariants.{Pass, Readers, Latch}
-use Rattle.rc_spec.specs.declared.lock.Mode.{Mode}
-use Rattle.rc_spec.specs.declared.lock.Mode.TheVariants.{Shared, Exclusive}
-use Rattle.rc_plan.specs.Compiled.{SpecWithPlans}
-use Rattle.rc_rel.specs.declared.entry.Entry.{Entry}
-use Rattle.rc_core.specs.declared.state.CoreState.{CoreState}
-use Rattle.rc_core.specs.declared.state.Hold.{Hold}
-use Rattle.rc_core.specs.declared.state.Keeper.{Keeper}
-use Rattle.rc_core.specs.declared.state.Keeper.TheVariants.{Home, Writer}
-use Rattle.rc_core.specs.declared.state.StripeState.{StripeState}
-use Rattle.rc_core.specs.declared.event.Event.{Event}
+use Rattle.rc_row.specs.Imports.{stripe_total, Found, Pass, Readers, Latch, Mode, Shared, Exclusive, SpecWithPlans, Entry, CoreState, Hold, Keeper, Home, Writer, StripeState, Event, pass_at, stripe_at, other_holds, CanLeave, IsAllowed, after, resumed}
 use Rattle.rc_core.specs.declared.event.Event.TheVariants as event
-use Rattle.rc_core.specs.State.{pass_at, stripe_at}
-use Rattle.rc_core.specs.Passes.{other_holds}
-use Rattle.rc_core.specs.Events.{CanLeave, IsAllowed, after}
-use Rattle.rc_core.specs.Resumed.{resumed}
 use Rattle.rc_row.specs.declared.law.Refusal.{Refusal}
 
 -- the core's state, and of each stripe who has its latch: 0, or the number of the pass and one more

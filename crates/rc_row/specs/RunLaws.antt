@@ -2,17 +2,7 @@
 use Rattle.std.proofs.Common.{◌≡◌, ◌≢◌, ℕ, suc, ◌==◌, ◌++◌, Bool, true, false, List, [], ◌∷◌, length, Option, Some, None, refl, sym, ap, ◌∙◌, subst, inl, inr, arith}
 use Rattle.std.proofs.lemmas.List.{append-nil, append_assoc, length-append}
 use Rattle.std.proofs.lemmas.Bool.{eq-eqb, eqb-true, ne_eqb}
-use Rattle.rc_tuple.specs.RisingSet.{In}
-use Rattle.rc_tuple.specs.RisingSetLaws.{in_append}
-use Rattle.rc_plan.specs.Compiled.{SpecWithPlans, IsCompiled}
-use Rattle.rc_rel.specs.History.{IsPrefix}
-use Rattle.rc_core.specs.Events.{AreAllowed, after_all}
-use Rattle.rc_core.specs.declared.state.CoreState.{CoreState}
-use Rattle.rc_core.specs.Resumed.{resumed}
-use Rattle.rc_core.specs.ResumedLaws.{events_add, resumed_good}
-use Rattle.rc_core.specs.Good.{IsGood}
-use Rattle.rc_core.specs.RunLaws.{events_keep}
-use Rattle.atomic_table.specs.Table.{State}
+use Rattle.rc_row.specs.Imports.{In, in_append, SpecWithPlans, IsCompiled, IsPrefix, AreAllowed, after_all, CoreState, resumed, events_add, resumed_good, IsGood, events_keep, State}
 use Rattle.rc_row.specs.declared.law.Key.{Key}
 use Rattle.rc_row.specs.declared.law.Refusal.{Refusal}
 use Rattle.rc_row.specs.declared.law.View.{View}

@@ -1,17 +1,10 @@
 -- Words, homes and views show one state, in which no passes wait in a circle.
 use Rattle.std.proofs.Common.{◌≡◌, ℕ, ◌<◌, ◌||◌, true, List, [], ◌∷◌, length, get_or, Some, sym, ap, ◌∙◌, inl, inr, subst, arith}
-use Rattle.std.specs.Prelude.{slice_index}
-use Rattle.std.specs.List.{slice_get}
+use Rattle.rc_row.specs.Imports.{slice_index, slice_get, In, PassState, hold, no_pass, passes_determine, no_circle, State}
 use Rattle.std.proofs.lemmas.Bool.{cases_eq, false≢true, ne_eqb}
 use Rattle.std.proofs.lemmas.List.{ext_get_or}
 use Rattle.std.proofs.lemmas.Option.{get_or_from_slice_get}
 use mathlib.Core.Option.{some}
-use Rattle.rc_tuple.specs.RisingSet.{In}
-use Rattle.rc_core.specs.declared.state.PassState.{PassState}
-use Rattle.rc_core.specs.State.{hold, no_pass}
-use Rattle.rc_core.specs.DetermineLaws.{passes_determine}
-use Rattle.rc_core.specs.WaitsLaws.{no_circle}
-use Rattle.atomic_table.specs.Table.{State}
 use Rattle.rc_row.specs.declared.law.Key.{Key}
 use Rattle.rc_row.specs.declared.law.Standing.{Standing}
 use Rattle.rc_row.specs.declared.law.View.{View}

@@ -1,6 +1,5 @@
 -- What lies in slots.
-use Rattle.std.specs.Prelude.{Option, Some, None}
-use Rattle.rc_fragment.specs.Keep.{KeptRows}
+use Rattle.rc_row.specs.Imports.{Option, Some, None, KeptRows}
 use Rattle.rc_row.specs.declared.slot.Slot.TheVariants.{Empty, Apart, Handed}
 use Rattle.rc_row.specs.Law.{Slot}
 

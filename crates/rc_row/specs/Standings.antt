@@ -1,24 +1,7 @@
 -- What a seat's view has of a pass, and how the steps of a row change it.
 use Rattle.std.specs.Prelude.{◌≡◌, ◌≢◌, ℕ, suc, ◌<◌, ◌≤◌, ◌^◌, List, [], ◌∷◌, ◌++◌, Option, Some, None, length, All}
-use Rattle.rc_tuple.specs.RisingSet.{In}
-use Rattle.rc_tuple.specs.Tuple.{Pairs}
-use Rattle.rc_tuple.specs.Relation.{IsRelation, Satisfies}
-use Rattle.rc_spec.specs.Calls.{all_columns}
-use Rattle.rc_spec.specs.Fragments.{fragment_of}
-use Rattle.rc_spec.specs.declared.lock.Found.{Found}
-use Rattle.rc_spec.specs.declared.lock.Found.TheVariants.{Pass, Readers, Latch}
-use Rattle.rc_spec.specs.declared.lock.Mode.{Mode}
-use Rattle.rc_spec.specs.declared.lock.Mode.TheVariants.{Shared, Exclusive}
-use Rattle.rc_spec.specs.declared.spec.Spec.{Spec}
-use Rattle.rc_plan.specs.Compiled.{SpecWithPlans}
-use Rattle.rc_rel.specs.declared.entry.Entry.{Entry}
-use Rattle.rc_rel.specs.History.{IsPrefix}
-use Rattle.rc_core.specs.declared.state.Hold.{Hold}
-use Rattle.rc_core.specs.declared.state.PassState.{PassState}
-use Rattle.rc_core.specs.State.{fresh}
-use Rattle.rc_core.specs.Good.{IsOfHistory}
-use Rattle.rc_core.specs.Resumed.{rested}
-use Rattle.rc_core.specs.Passes.{committed, learned, other_holds, turned}
+use Rattle.rc_row.specs.Imports.{In, Pairs, IsRelation, Satisfies, all_columns, fragment_of, Found, Pass, Readers, Latch, Mode, Shared, Exclusive, Spec, SpecWithPlans, Entry, IsPrefix, Hold, PassState, fresh, IsOfHistory, rested, committed, learned, other_holds}
+use Rattle.rc_core.specs.Passes.{turned}
 use Rattle.rc_row.specs.declared.law.Standing.{Standing}
 
 -- the pass k at the start

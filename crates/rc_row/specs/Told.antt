@@ -1,15 +1,6 @@
 -- What each step on the table tells the pass that makes it.
 use Rattle.std.specs.Prelude.{◌≡◌, ◌≢◌, ℕ, not, ◌*◌, ◌-◌, ◌/◌, ◌%◌, ◌<◌, ◌^◌, ◌==◌, if◌then◌else◌, Bool, false, true, suc, drop, List, [], ◌∷◌, ◌++◌, length, Option, Some, None, MatchBool}
-use Rattle.rc_spec.specs.Fragments.{EdgeRow}
-use Rattle.rc_spec.specs.declared.lock.Found.{Found}
-use Rattle.rc_spec.specs.declared.lock.Found.TheVariants.{Pass, Readers, Latch}
-use Rattle.rc_spec.specs.declared.lock.Mode.TheVariants.{Shared, Exclusive}
-use Rattle.rc_rel.specs.declared.entry.Entry.{Entry}
-use Rattle.rc_core.specs.declared.state.PassState.{PassState}
-use Rattle.rc_core.specs.State.{is_at}
-use Rattle.rc_core.specs.Good.{IsOfHistory}
-use Rattle.rc_core.specs.Passes.{locked, blocked, shared, back, released, rows_of_hold}
-use Rattle.atomic_table.specs.Table.{Me, Step, rest}
+use Rattle.rc_row.specs.Imports.{EdgeRow, Found, Pass, Readers, Latch, Shared, Exclusive, Entry, PassState, is_at, IsOfHistory, locked, blocked, shared, back, released, rows_of_hold, Me, Step, rest}
 use Rattle.rc_row.specs.declared.law.Key.{Key}
 use Rattle.rc_row.specs.declared.law.View.{View}
 use Rattle.rc_row.specs.Standings.{with_core, refused, turned_by, latched_out, after_entry, after_look, KeepsOut, IsAtHistory, HaveOneRelation}

@@ -1,7 +1,6 @@
 -- Where a held stripe is.
 use Rattle.std.specs.Prelude.{◌≡◌, ℕ, suc, List, ◌∷◌, ◌++◌, length, take, drop}
-use Rattle.rc_tuple.specs.RisingSet.{In}
-use Rattle.rc_core.specs.State.{stripes_in}
+use Rattle.rc_row.specs.Imports.{In, stripes_in}
 use Rattle.rc_row.specs.HeldRows.{HeldRows}
 use Rattle.rc_row.specs.Passes.{holds_taken}
 

@@ -1,11 +1,8 @@
 -- Laws of callers that make rounds.
 use Rattle.std.proofs.Common.{◌≡◌, ℕ, ◌+◌, ◌<◌, List, [], ◌∷◌, ◌++◌, All, map, length, take, get_or, sym, ap, ◌∙◌, subst}
-use Rattle.std.specs.Prelude.{OnOk, Result, Ok, Err}
-use Rattle.std.specs.List.{range_with_len}
+use Rattle.rc_runner.specs.Imports.{OnOk, Result, Ok, Err, range_with_len, Turn, Call}
 use Rattle.std.proofs.lemmas.List.{take_more}
 use Rattle.std.proofs.lemmas.List.Elements.{All-map}
-use Rattle.rc_work.specs.declared.work.Turn.{Turn}
-use Rattle.rc_spec.specs.declared.call.Call.{Call}
 use Rattle.rc_runner.specs.Rounds.{HasGrown, HaveLearnt, HaveMade, MadeRound, MadeTurns, Stand}
 use Rattle.rc_runner.specs.TellingLaws.{same_length}
 use Rattle.rc_runner.specs.RoundLaws.{a_round_goes_on, numbered_grow, rounds_start, zip_both}

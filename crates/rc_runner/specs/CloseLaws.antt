@@ -1,19 +1,8 @@
 -- Where the passes have made the rounds of a workload, their history is a run of it.
 use Rattle.std.proofs.Common.{◌≡◌, ℕ, zero, suc, ◌+◌, ◌-◌, ◌<◌, ◌≤◌, ◌==◌, cond, List, Some, [], ◌∷◌, map, length, filter, take, drop, sym, refl, ap, ◌∙◌, subst, inl, inr, arith}
-use Rattle.std.specs.List.{AllByRecursion, slice_get}
+use Rattle.rc_runner.specs.Imports.{AllByRecursion, slice_get, In, append_in_left, append_in_right, Spec, Entry, Placed, own, own_placed, placed, placed_from, placed_own, Turn, Work, HasThreads, thread_turns, turns_of, MakesRound, MakesRounds, Runs}
 use Rattle.std.proofs.lemmas.Bool.{eq-eqb, ne_eqb, cases_lt}
 use Rattle.std.proofs.lemmas.List.{take-append-drop}
-use Rattle.rc_tuple.specs.RisingSet.{In}
-use Rattle.rc_tuple.specs.RisingSetLaws.{append_in_left, append_in_right}
-use Rattle.rc_spec.specs.declared.spec.Spec.{Spec}
-use Rattle.rc_rel.specs.declared.entry.Entry.{Entry}
-use Rattle.rc_rel.specs.declared.entry.Placed.{Placed}
-use Rattle.rc_rel.specs.History.{own, own_placed, placed, placed_from}
-use Rattle.rc_rel.specs.OwnLaws.{placed_own}
-use Rattle.rc_work.specs.declared.work.Turn.{Turn}
-use Rattle.rc_work.specs.declared.work.Work.{Work}
-use Rattle.rc_work.specs.Fitting.{HasThreads}
-use Rattle.rc_work.specs.Runs.{thread_turns, turns_of, MakesRound, MakesRounds, Runs}
 use Rattle.rc_runner.specs.Rounds.{entries_of, Stand, MadeBy, HasMade, EachHasMade, HaveMade, IsClosed}
 use Rattle.rc_runner.specs.PlacedLaws.{cut_own}
 

@@ -1,14 +1,8 @@
 -- Laws of own entries with their places, and of lists of them cut at a place.
 use Rattle.std.proofs.Common.{◌≡◌, ℕ, zero, suc, ◌+◌, ◌-◌, ◌<◌, ◌≤◌, List, Some, [], ◌∷◌, ◌++◌, All, length, min, take, drop, get_or, sym, refl, ap, ◌∙◌, subst, arith}
-use Rattle.std.specs.List.{slice_get}
+use Rattle.rc_runner.specs.Imports.{slice_get, In, append_in_right, get_or_in, in_contains, Entry, Placed, placed_from, placed_from-append, stands_from}
 use Rattle.std.proofs.lemmas.List.{length-take, take-append-drop}
 use Rattle.std.proofs.lemmas.List.Elements.{All-contains, All-head, All-same, All-tail, All-weaker}
-use Rattle.rc_tuple.specs.RisingSet.{In}
-use Rattle.rc_tuple.specs.RisingSetLaws.{append_in_right, get_or_in, in_contains}
-use Rattle.rc_rel.specs.declared.entry.Entry.{Entry}
-use Rattle.rc_rel.specs.declared.entry.Placed.{Placed}
-use Rattle.rc_rel.specs.History.{placed_from}
-use Rattle.rc_rel.specs.OwnLaws.{placed_from-append, stands_from}
 use Rattle.rc_runner.specs.Rounds.{AreBefore, AreFrom}
 
 -- ---- a fact of all elements, and of each that stands in the list

@@ -1,13 +1,8 @@
 -- Laws of passes that make their turns round by round.
 use Rattle.std.proofs.Common.{◌≡◌, ℕ, suc, ◌+◌, ◌<◌, ◌≤◌, ◌==◌, Bool, true, false, cond, max, List, [], ◌∷◌, ◌++◌, All, map, filter, length, take, get_or, if◌then◌else◌, sym, refl, ap, ◌∙◌, subst, arith}
-use Rattle.std.specs.List.{AllZip, range_with_len}
+use Rattle.rc_runner.specs.Imports.{AllZip, range_with_len, Call, Placed, Turn, thread_turns, turns_of, turns_of-append}
 use Rattle.std.proofs.lemmas.List.{append-nil, append_assoc, map-append, take_more}
 use Rattle.std.proofs.lemmas.List.Elements.{All-append, All-cons, All-head, All-nil, All-push, All-tail, All-weaker, filter-append}
-use Rattle.rc_spec.specs.declared.call.Call.{Call}
-use Rattle.rc_rel.specs.declared.entry.Placed.{Placed}
-use Rattle.rc_work.specs.declared.work.Turn.{Turn}
-use Rattle.rc_work.specs.Runs.{thread_turns, turns_of}
-use Rattle.rc_work.specs.RunsLaws.{turns_of-append}
 use Rattle.rc_runner.specs.Rounds.{entries_of, AreBefore, AreFrom, Stand, MadeBy, HasMade, EachHasMade, HaveMade, HasCalled, HasGrown, EachHasGrown, HaveLearnt, MadeRound}
 
 -- ---- the turns of a pass within a round

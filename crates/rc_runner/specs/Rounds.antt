@@ -1,14 +1,6 @@
 -- Passes that make their turns round by round. (PLDI 2012, serializable transactions: what threads make beside each other is one history.)
 use Rattle.std.specs.Prelude.{◌≡◌, ℕ, suc, ◌<◌, ◌≤◌, List, [], ◌∷◌, ◌++◌, map, length, Some, All}
-use Rattle.std.specs.List.{AllZip, slice_get}
-use Rattle.rc_tuple.specs.RisingSet.{In}
-use Rattle.rc_spec.specs.declared.spec.Spec.{Spec}
-use Rattle.rc_spec.specs.declared.call.Call.{Call}
-use Rattle.rc_rel.specs.declared.entry.Entry.{Entry}
-use Rattle.rc_rel.specs.declared.entry.Placed.{Placed}
-use Rattle.rc_rel.specs.History.{IsLegal, IsNumbered, own_placed}
-use Rattle.rc_work.specs.declared.work.Turn.{Turn}
-use Rattle.rc_work.specs.Runs.{thread_turns, turns_of}
+use Rattle.rc_runner.specs.Imports.{AllZip, slice_get, In, Spec, Call, Entry, Placed, IsLegal, IsNumbered, own_placed, Turn, thread_turns, turns_of}
 
 -- ---- entries with their places
 

@@ -1,13 +1,8 @@
 -- Passes of a store that make the calls of a workload. (PLDI 2012, serializable transactions of threads that run beside
 -- each other.)
 use Rattle.std.specs.Prelude.{◌≡◌, ℕ, ◌+◌, ◌≤◌, List, Some, map, length}
-use Rattle.rc_rel.specs.declared.entry.Entry.{Entry}
-use Rattle.rc_row.specs.Passes.{PassSeen, core_of}
-use Rattle.rc_store.specs.Closed.{ClosedSeen, Leaves}
-use Rattle.rc_store.specs.Store.{IsFree, StoreSeen}
+use Rattle.rc_runner.specs.Imports.{Entry, PassSeen, core_of, ClosedSeen, Leaves, IsFree, StoreSeen, Work, Runs}
 use Rattle.rc_runner.specs.Rounds.{Stand}
-use Rattle.rc_work.specs.declared.work.Work.{Work}
-use Rattle.rc_work.specs.Runs.{Runs}
 
 -- ---- passes
 

@@ -1,37 +1,13 @@
 -- Laws of passes that make the turns of a workload.
 use Rattle.std.proofs.Common.{◌≡◌, ℕ, zero, suc, ◌+◌, ◌<◌, ◌≤◌, ◌==◌, List, [], ◌∷◌, ◌++◌, All, Some, map, filter, length, min, take, get_or, sum_by, sym, refl, ap, ◌∙◌, subst, arith}
-use Rattle.std.specs.Borrow.{Bor}
-use Rattle.std.specs.Prelude.{IfOk, Result, Ok, Err}
-use Rattle.std.specs.List.{AllByRecursion, range_with_len, slice_get}
+use Rattle.rc_runner.specs.Imports.{Bor, IfOk, Result, Ok, Err, AllByRecursion, range_with_len, slice_get, Call, Reply, Spec, Entry, Placed, Step, placed, with_replies, calls-with_replies, PassState, next_of, SpecWithPlans, Entries, AreIdlePasses, IsPassOf, PassSeen, RowSeen, core_of, new_pass, new_passes, spec_of, GroupReceipt, ClosedSeen, HasClosed, Leaves, where_kept, HasMadeEntry, HasMadeGroup, IsFree, StoreSeen, Turn, Work, HasThreads, TurnsFit, count_calls, Runs, thread_turns, turns_of}
 use Rattle.std.proofs.Math.Seq.{take-append_seam}
 use Rattle.std.proofs.lemmas.List.{length-append, length-map, length-take, map-id}
 use Rattle.std.proofs.lemmas.List.Elements.{All-cons, All-filter, All-from_recursion, All-head, All-map, All-nil, All-tail, All-weaker}
 use Rattle.std.proofs.lemmas.List.FromFn.{length-range_with_len}
 use Rattle.std.proofs.lemmas.List.Sums.{count_by-le-length, length-filter, sum_by-cons, sum_by_more_le}
 use Rattle.std.proofs.lemmas.Simd.{map-map}
-use Rattle.rc_spec.specs.declared.call.Call.{Call}
-use Rattle.rc_spec.specs.declared.call.Reply.{Reply}
-use Rattle.rc_spec.specs.declared.spec.Spec.{Spec}
-use Rattle.rc_rel.specs.declared.entry.Entry.{Entry}
-use Rattle.rc_rel.specs.declared.entry.Placed.{Placed}
-use Rattle.rc_rel.specs.declared.entry.Step.{Step}
-use Rattle.rc_rel.specs.History.{placed, with_replies}
-use Rattle.rc_rel.specs.HistoryLaws.{calls-with_replies}
-use Rattle.rc_core.specs.declared.state.PassState.{PassState}
-use Rattle.rc_core.specs.Passes.{next_of}
-use Rattle.rc_plan.specs.Compiled.{SpecWithPlans}
-use Rattle.rc_row.specs.declared.keeping.Keeping.TheVariants.{Entries}
-use Rattle.rc_row.specs.Passes.{AreIdlePasses, IsPassOf, PassSeen, RowSeen, core_of, new_pass, new_passes, spec_of}
-use Rattle.rc_store.specs.declared.receipt.GroupReceipt.{GroupReceipt}
-use Rattle.rc_store.specs.declared.receipt.Receipt.{Receipt}
-use Rattle.rc_store.specs.Closed.{ClosedSeen, HasClosed, Leaves, where_kept}
 use Rattle.rc_store.specs.FreeLaws.{new_are_free as all_free}
-use Rattle.rc_store.specs.Store.{HasMade, HasMadeEntry, HasMadeGroup, IsFree, StoreSeen}
-use Rattle.rc_work.specs.declared.work.Turn.{Turn}
-use Rattle.rc_work.specs.declared.work.Work.{Work}
-use Rattle.rc_work.specs.Fitting.{HasThreads, TurnsFit}
-use Rattle.rc_work.specs.Limits.{count_calls}
-use Rattle.rc_work.specs.Runs.{Runs, thread_turns, turns_of}
 use Rattle.rc_runner.specs.Rounds.{EachHasMade, HasCalled, HasGrown, HaveMade, IsClosed, MadeBy, Stand, entries_of}
 use Rattle.rc_runner.specs.CloseLaws.{rounds_run}
 use Rattle.rc_runner.specs.Shares.{AreShared, HaveTurnSizes, RoundsHaveTurnSizes, MayMakeShare, Shares, SharesFit, TurnFits, share_of, turns_in}
@@ -49,7 +25,7 @@ module _ (store : StoreSeen) (steps : List Step) (old new : PassSeen) (place nth
     before = subst (λ (u : PassState). place < u.seen) (sym m.core) (omega arith);
   }
 
--- and of a group
+-- of a group
 module _ (store : StoreSeen) (calls : List Call) (replies : List Reply) (old new : PassSeen) (receipt : GroupReceipt)
     (m : HasMadeGroup store calls replies old new receipt) where
   pub group_called_so : HasCalled calls (stand_of old) (stand_of new)

@@ -1,16 +1,7 @@
 -- The turns of a round, shared out among its threads.
 use Rattle.std.specs.Prelude.{◌≡◌, ℕ, ◌<◌, ◌≤◌, List, [], Option, None, Some, All, map, length}
-use Rattle.std.specs.Borrow.{Bor}
-use Rattle.std.specs.List.{AllByRecursion, slice_get}
+use Rattle.rc_runner.specs.Imports.{Bor, AllByRecursion, slice_get, Call, Spec, Fits, PassSeen, StoreSeen, Turn, HasTurnSize, thread_turns}
 use Rattle.std.proofs.Common.{Vec, Global}
-use Rattle.rc_spec.specs.declared.call.Call.{Call}
-use Rattle.rc_spec.specs.declared.spec.Spec.{Spec}
-use Rattle.rc_spec.specs.Calls.{Fits}
-use Rattle.rc_row.specs.Passes.{PassSeen}
-use Rattle.rc_store.specs.Store.{StoreSeen}
-use Rattle.rc_work.specs.declared.work.Turn.{Turn}
-use Rattle.rc_work.specs.Limits.{HasTurnSize}
-use Rattle.rc_work.specs.Runs.{thread_turns}
 use Rattle.rc_runner.specs.Running.{MayMake, number_of}
 
 -- the calls of turns that are lent

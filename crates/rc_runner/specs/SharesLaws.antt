@@ -1,19 +1,13 @@
 -- Laws of the turns of a round, shared out among its threads.
 use Rattle.std.proofs.Common.{◌≡◌, ℕ, ◌+◌, ◌<◌, ◌≤◌, ◌==◌, All, Bool, true, false, List, [], ◌∷◌, ◌++◌, Vec, Global, length, set, take, get_or, Some, refl, sym, ap, subst, ◌∙◌, arith}
-use Rattle.std.specs.Borrow.{Bor}
-use Rattle.std.specs.List.{slice_get}
+use Rattle.rc_runner.specs.Imports.{Bor, slice_get, Call, Turn, thread_turns, get_set_same, get_set_other, Spec}
 use Rattle.std.proofs.lemmas.Bool.{eqb-true, eqb-false}
 use Rattle.std.proofs.lemmas.List.{append-nil, get_or-map, length-map, map-append, map_more}
 use Rattle.std.proofs.lemmas.List.Elements.{All-get_or}
 use Rattle.std.proofs.lemmas.Option.{slice_get_past, slice_get_read}
-use Rattle.rc_spec.specs.declared.call.Call.{Call}
-use Rattle.rc_work.specs.declared.work.Turn.{Turn}
-use Rattle.rc_work.specs.Runs.{thread_turns}
 use Rattle.rc_runner.specs.Shares.{AreShared, Shares, TurnFits, share_of, turns_in, turns_of_share}
-use Rattle.rc_core.specs.ListLaws.{get_set_same, get_set_other}
 use Rattle.rc_runner.specs.RoundLaws.{growth_goes_on, turn_go_on}
 use Rattle.rc_runner.specs.Rounds.{HasCalled, HasGrown, Stand}
-use Rattle.rc_spec.specs.declared.spec.Spec.{Spec}
 
 -- one more turn of a share
 pub turns_in-more : (turns : List (Bor Turn)) (turn : Bor Turn) → turns_in (turns ++ turn ∷ []) ≡ turns_in turns ++ turn.now.calls ∷ []

@@ -1,13 +1,6 @@
 -- What the definitions compute at a worked row: a graph's edges src -> dst, each with one weight.
 use Rattle.std.specs.Prelude.{◌≡◌, ℕ, List, [], ◌∷◌}
-use Rattle.std.proofs.Common.{refl}
-use Rattle.rc_tuple.specs.Tuple.{Pairs}
-use Rattle.rc_spec.specs.declared.items.ColKind.TheVariants.{Num}
-use Rattle.rc_spec.specs.declared.items.EdgeKind.TheVariants.{Hash, Ordered, Singleton}
-use Rattle.rc_spec.specs.declared.spec.Spec.{Spec}
-use Rattle.rc_spec.specs.Contents.{content, contents, represented}
-use Rattle.rc_spec.specs.Decomposition.{edge_at}
-use Rattle.rc_spec.specs.Fragments.{all_rows, fragment_of, represented_by}
+use Rattle.rc_spec.proofs.Imports.{refl, Pairs, Num, Hash, Ordered, Singleton, Spec, content, contents, represented, edge_at, all_rows, fragment_of, represented_by}
 use Rattle.rc_spec.specs.Stripes.{mix}
 
 -- The columns src, dst and weight; the nodes root, u, w and z; the edges e1 from root to u, e2 from u to w and e3 from w to z; and one class of 8 stripes, chosen by src, with all edges. Names play no part here.

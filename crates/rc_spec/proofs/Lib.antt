@@ -1,1 +1,2 @@
 mod ContentExample
+mod Imports

@@ -1,9 +1,6 @@
 -- Laws of acceptance: the checks of the table are the rules.
 use Rattle.std.proofs.Common.{◌≡◌, ℕ, ◌<◌, List, [], ◌∷◌, refl, sym, subst, inl, inr}
-use Rattle.std.specs.List.{AllByRecursion, range_with_len}
-use Rattle.rc_tuple.specs.RisingSet.{In}
-use Rattle.rc_tuple.specs.RisingSetLaws.{flat_map_in, map_in}
-use Rattle.rc_tuple.specs.ColSetLaws.{in_range_below}
+use Rattle.rc_spec.specs.Imports.{AllByRecursion, range_with_len, In, flat_map_in, map_in, in_range_below}
 use Rattle.rc_spec.specs.declared.refusal.Rule.{Rule}
 use Rattle.rc_spec.specs.declared.refusal.Rule.TheVariants.{A1, A2, A3, A4, A5, A6, A7, P1, P2, P3, P4, P5, P6, O1, O2, O3}
 use Rattle.rc_spec.specs.declared.refusal.ItemKind.{ItemKind}

@@ -1,10 +1,6 @@
 -- When a decomposition is adequate: it can represent every relation that satisfies the dependencies. (PLDI 2011, adequacy.)
 use Rattle.std.specs.Prelude.{◌≡◌, ℕ, zero, suc, ◌<◌, List, [], length, map, take, ◌⊎◌}
-use Rattle.std.specs.List.{flat_map}
-use Rattle.std.specs.Ordering.{nat_cmp}
-use Rattle.rc_tuple.specs.RisingSet.{In, gather}
-use Rattle.rc_tuple.specs.ColSet.{Within, inter}
-use Rattle.rc_tuple.specs.Relation.{Follows}
+use Rattle.rc_spec.specs.Imports.{flat_map, nat_cmp, In, gather, Within, inter, Follows}
 use Rattle.rc_spec.specs.declared.items.Edge.{Edge}
 use Rattle.rc_spec.specs.declared.items.EdgeKind.TheVariants.{Singleton}
 use Rattle.rc_spec.specs.declared.spec.Spec.{Spec}

@@ -1,9 +1,6 @@
 -- The columns of a specification, and the calls that fit it.
 use Rattle.std.specs.Prelude.{◌≡◌, ℕ, List, length, Some, map}
-use Rattle.std.specs.List.{slice_get, range_with_len}
-use Rattle.std.specs.Ordering.{nat_cmp}
-use Rattle.rc_tuple.specs.RisingSet.{gather}
-use Rattle.rc_tuple.specs.Tuple.{IsTuple, cols_of}
+use Rattle.rc_spec.specs.Imports.{slice_get, range_with_len, nat_cmp, gather, IsTuple, cols_of}
 use Rattle.rc_spec.specs.declared.items.Op.{Op}
 use Rattle.rc_spec.specs.declared.items.OpKind.{OpKind}
 use Rattle.rc_spec.specs.declared.items.OpKind.TheVariants.{Query, Insert, Remove, Update}

@@ -1,11 +1,6 @@
 -- Laws of calls that fit.
 use Rattle.std.proofs.Common.{◌≡◌, ℕ, List, refl, sym, ap, subst, ◌∙◌, length}
-use Rattle.std.specs.Ordering.{nat_cmp}
-use Rattle.rc_tuple.specs.RisingSet.{gather}
-use Rattle.rc_tuple.specs.RisingSetLaws.{nat_order, gather-rising}
-use Rattle.rc_tuple.specs.ColSetLaws.{rising_range}
-use Rattle.rc_tuple.specs.Tuple.{Pairs, cols_of}
-use Rattle.rc_tuple.specs.Relation.{IsOver, IsRelation}
+use Rattle.rc_spec.specs.Imports.{nat_cmp, gather, nat_order, gather-rising, rising_range, Pairs, cols_of, IsOver, IsRelation}
 use Rattle.rc_spec.specs.declared.items.Op.{Op}
 use Rattle.rc_spec.specs.declared.items.OpKind.{OpKind}
 use Rattle.rc_spec.specs.declared.items.OpKind.TheVariants.{Query, Insert, Remove, Update}

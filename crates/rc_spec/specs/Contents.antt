@@ -1,8 +1,6 @@
 -- The contents of a decomposition's edges, and the relation that contents represent: the join of their rows. (PLDI 2011, decompositions and adequacy.)
 use Rattle.std.specs.Prelude.{ℕ, List, [], ◌∷◌, map, length}
-use Rattle.std.specs.List.{filter, flat_map}
-use Rattle.rc_tuple.specs.RisingSet.{gather}
-use Rattle.rc_tuple.specs.Tuple.{Pairs, project, agrees, merge, tuple_cmp, tuple_eq}
+use Rattle.rc_spec.specs.Imports.{filter, flat_map, gather, Pairs, project, agrees, merge, tuple_cmp, tuple_eq}
 use Rattle.rc_spec.specs.declared.items.Edge.{Edge}
 use Rattle.rc_spec.specs.declared.spec.Spec.{Spec}
 use Rattle.rc_spec.specs.Decomposition.{bound}

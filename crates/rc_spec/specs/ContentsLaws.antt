@@ -1,16 +1,10 @@
 -- Laws of contents: those of an adequate decomposition lose no tuple.
 use Rattle.std.specs.Prelude.{◌≡◌, ℕ, zero, suc, ◌+◌, ◌<◌, ◌≤◌, List, [], ◌∷◌, ◌++◌, ◌⊎◌, length, map, take, get_or}
-use Rattle.std.specs.List.{range_with_len}
+use Rattle.rc_spec.specs.Imports.{range_with_len, In, get_or_in, Within, union, inter, union_within, in_inter, rising_range, in_range_bounds, in_range_below, Pairs, IsRelation, SatisfiesOne, Satisfies, HoldsDeps, Follows}
 use Rattle.std.proofs.Common.{inl, inr, refl, sym, ap, subst, ◌∙◌, arith}
 use Rattle.std.proofs.lemmas.List.{take_more, take_all, map-append}
 use Rattle.std.proofs.lemmas.List.FromFn.{map-range_with_len_more}
 use Rattle.std.proofs.lemmas.Simd.{map-map}
-use Rattle.rc_tuple.specs.RisingSet.{In}
-use Rattle.rc_tuple.specs.RisingSetLaws.{get_or_in}
-use Rattle.rc_tuple.specs.ColSet.{Within, union, inter}
-use Rattle.rc_tuple.specs.ColSetLaws.{union_within, in_inter, rising_range, in_range_bounds, in_range_below}
-use Rattle.rc_tuple.specs.Tuple.{Pairs}
-use Rattle.rc_tuple.specs.Relation.{IsRelation, SatisfiesOne, Satisfies, HoldsDeps, Follows}
 use Rattle.rc_spec.specs.declared.items.Edge.{Edge}
 use Rattle.rc_spec.specs.declared.spec.Spec.{Spec}
 use Rattle.rc_spec.specs.Adequacy.{visited, IsLossless, IsAdequate}

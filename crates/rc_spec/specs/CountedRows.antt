@@ -1,7 +1,6 @@
 -- The counts of edges' rows, and what adding a tuple's rows and taking them out does to them. (PLDI 2011, operations on decompositions.)
 use Rattle.std.specs.Prelude.{ℕ, zero, suc, pred, Bool, List, [], ◌∷◌, ◌==◌, ◌&&◌, filter, not, if◌then◌else◌}
-use Rattle.rc_tuple.specs.RisingSet.{put}
-use Rattle.rc_tuple.specs.Tuple.{Pairs, project, tuple_eq}
+use Rattle.rc_spec.specs.Imports.{put, Pairs, project, tuple_eq}
 use Rattle.rc_spec.specs.declared.spec.Spec.{Spec}
 use Rattle.rc_spec.specs.Decomposition.{bound, edge_at}
 use Rattle.rc_spec.specs.Fragments.{EdgeRow, edge_row_cmp, edge_numbers}

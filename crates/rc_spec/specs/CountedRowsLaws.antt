@@ -1,16 +1,8 @@
 -- Laws of counted rows: rows are determined by their counts, and what an insert and a remove do to the fragments of stripes.
 use Rattle.std.specs.Prelude.{◌≡◌, ℕ, zero, suc, pred, ◌+◌, ◌-◌, ◌<◌, ◌≤◌, Bool, true, false, List, [], ◌∷◌, ◌⊎◌, ◌==◌, filter, cond, not, length}
-use Rattle.std.specs.List.{range_with_len}
-use Rattle.std.specs.declared.cmp.Ordering.{Ordering}
-use Rattle.std.specs.declared.cmp.Ordering.TheVariants.{Less, Equal, Greater}
-use Rattle.std.specs.Ordering.{match_ordering}
+use Rattle.rc_spec.specs.Imports.{range_with_len, Ordering, Less, Equal, Greater, match_ordering, In, IsRising, put, same_rising, rising_put, rising_filter, in_put, put_new, put_old, in_filter, filter_in, not_below_itself, in_has, has_in, has, Pairs, project, tuple_cmp, tuple_eq, tuple_order, same_from_test, test_from_same}
 use Rattle.std.proofs.Common.{inl, inr, refl, sym, ap, subst, ◌∙◌, arith, zero-add}
 use Rattle.std.proofs.lemmas.Bool.{false≢true, cases_Bool, cases_eq, cases_lt, eqb-true, eq-eqb, and_parts, and_from, not_from_false, not-true}
-use Rattle.rc_tuple.specs.RisingSet.{In, IsRising, put}
-use Rattle.rc_tuple.specs.RisingSetLaws.{same_rising, rising_put, rising_filter, in_put, put_new, put_old, in_filter, filter_in, not_below_itself, in_has, has_in}
-use Rattle.rc_tuple.specs.ColSet.{has}
-use Rattle.rc_tuple.specs.Tuple.{Pairs, project, tuple_cmp, tuple_eq}
-use Rattle.rc_tuple.specs.TupleLaws.{tuple_order, same_from_test, test_from_same}
 use Rattle.rc_spec.specs.declared.spec.Spec.{Spec}
 use Rattle.rc_spec.specs.Contents.{how_many}
 use Rattle.rc_spec.specs.Decomposition.{bound, edge_at}

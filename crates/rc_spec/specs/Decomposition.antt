@@ -1,7 +1,6 @@
 -- The decomposition of a relation: the columns that nodes bind, and walks and circles of edges.
 use Rattle.std.specs.Prelude.{◌≡◌, ℕ, List, [], ◌∷◌, get_or}
-use Rattle.rc_tuple.specs.RisingSet.{In}
-use Rattle.rc_tuple.specs.ColSet.{union}
+use Rattle.rc_spec.specs.Imports.{In, union}
 use Rattle.rc_spec.specs.declared.items.Node.{Node}
 use Rattle.rc_spec.specs.declared.items.Edge.{Edge}
 use Rattle.rc_spec.specs.declared.items.EdgeKind.TheVariants.{Singleton}

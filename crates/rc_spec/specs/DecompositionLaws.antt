@@ -1,13 +1,8 @@
 -- Laws of edges by number, and of the columns that they visit.
 use Rattle.std.proofs.Common.{◌≡◌, ℕ, ◌+◌, ◌<◌, List, [], ◌∷◌, ◌++◌, length, take, get_or, sym, ap, ◌∙◌, subst}
-use Rattle.std.specs.List.{flat_map}
-use Rattle.std.specs.Ordering.{nat_cmp}
+use Rattle.rc_spec.specs.Imports.{flat_map, nat_cmp, In, gather, get_or_in, union, gather-union}
 use Rattle.std.proofs.lemmas.List.{take_more, get_or_default, append-nil}
 use Rattle.std.proofs.lemmas.Grind.{flat_map-append}
-use Rattle.rc_tuple.specs.RisingSet.{In, gather}
-use Rattle.rc_tuple.specs.RisingSetLaws.{get_or_in}
-use Rattle.rc_tuple.specs.ColSet.{union}
-use Rattle.rc_tuple.specs.ColSetLaws.{gather-union}
 use Rattle.rc_spec.specs.declared.items.Edge.{Edge}
 use Rattle.rc_spec.specs.declared.spec.Spec.{Spec}
 use Rattle.rc_spec.specs.Adequacy.{visited}

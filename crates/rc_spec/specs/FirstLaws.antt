@@ -1,14 +1,10 @@
 -- Laws of the first of a list for which something does not hold.
 use Rattle.std.proofs.Common.{◌≡◌, ℕ, ◌+◌, ◌<◌, ◌≤◌, ◌↔◌, Bool, true, List, [], ◌∷◌, ◌++◌, map, take, drop, length, get_or, Result, Ok, Err, refl, sym, ap, ◌∙◌, subst, inl, inr, arith}
-use Rattle.std.specs.List.{flat_map, range_with_len}
-use Rattle.std.specs.Result.{IsOk, IfErr}
+use Rattle.rc_spec.specs.Imports.{flat_map, range_with_len, IsOk, IfErr, In, in_append, append_in_left, append_in_right, in_map, in_flat_map, flat_map_in, in_range_bounds, range_at, in_range_below}
 use Rattle.std.proofs.lemmas.Bool.{false≢true}
 use Rattle.std.proofs.lemmas.List.{append_assoc, append-nil, map-append, take_more, take-append-drop}
 use Rattle.std.proofs.Math.Seq.{take-length}
 use Rattle.std.proofs.lemmas.Grind.{flat_map-append}
-use Rattle.rc_tuple.specs.RisingSet.{In}
-use Rattle.rc_tuple.specs.RisingSetLaws.{in_append, append_in_left, append_in_right, in_map, in_flat_map, flat_map_in}
-use Rattle.rc_tuple.specs.ColSetLaws.{in_range_bounds, range_at, in_range_below}
 use Rattle.rc_spec.specs.First.{EachHolds, IsFirstFailing, Judges}
 
 pub each_none : {A : Type 0} (P : A → Type 0) → EachHolds P []

@@ -1,11 +1,6 @@
 -- Fragments: the rows of all contents, parted by the lock stripes on which they fall. (PLDI 2012, lock placement and striping.)
 use Rattle.std.specs.Prelude.{ℕ, List, [], ◌∷◌, ◌==◌, map, length}
-use Rattle.std.specs.List.{filter, flat_map, range_with_len}
-use Rattle.std.specs.declared.cmp.Ordering.{Ordering}
-use Rattle.std.specs.Ordering.{ordering_then, nat_cmp}
-use Rattle.rc_tuple.specs.RisingSet.{gather}
-use Rattle.rc_tuple.specs.ColSet.{has}
-use Rattle.rc_tuple.specs.Tuple.{Pairs, tuple_cmp}
+use Rattle.rc_spec.specs.Imports.{filter, flat_map, range_with_len, Ordering, ordering_then, nat_cmp, gather, has, Pairs, tuple_cmp}
 use Rattle.rc_spec.specs.declared.spec.Spec.{Spec}
 use Rattle.rc_spec.specs.Contents.{content, join_all}
 use Rattle.rc_spec.specs.Decomposition.{edge_at}

@@ -1,17 +1,9 @@
 -- Laws of fragments: the fragments of all stripes hold all rows, and represent the relation.
 use Rattle.std.specs.Prelude.{◌≡◌, ℕ, ◌+◌, ◌<◌, ◌≤◌, true, List, [], ◌∷◌, ◌==◌, length, map}
-use Rattle.std.specs.List.{filter, flat_map}
-use Rattle.std.specs.declared.cmp.Ordering.TheVariants.{Equal}
-use Rattle.std.specs.Ordering.{nat_cmp, ordering_then}
+use Rattle.rc_spec.specs.Imports.{filter, flat_map, Equal, nat_cmp, ordering_then, In, IsRising, gather, IsOrder, same_rising, rising_gather, rising_filter, in_gather, gather_in, in_filter, filter_in, filter-filter, in_map, map_in, in_flat_map, flat_map_in, nat_order, in_has, has_in, has, in_range_bounds, in_range_below, Pairs, project, tuple_cmp, then_equal, tuple_order}
 use Rattle.std.proofs.Common.{inl, inr, refl, sym, ap, subst, ◌∙◌, arith}
 use Rattle.std.proofs.lemmas.Bool.{eqb-true, eq-eqb}
 use Rattle.std.proofs.lemmas.Cmp.{nat_cmp_total, then_total, on_total}
-use Rattle.rc_tuple.specs.RisingSet.{In, IsRising, gather}
-use Rattle.rc_tuple.specs.RisingSetLaws.{IsOrder, same_rising, rising_gather, rising_filter, in_gather, gather_in, in_filter, filter_in, filter-filter, in_map, map_in, in_flat_map, flat_map_in, nat_order, in_has, has_in}
-use Rattle.rc_tuple.specs.ColSet.{has}
-use Rattle.rc_tuple.specs.ColSetLaws.{in_range_bounds, in_range_below}
-use Rattle.rc_tuple.specs.Tuple.{Pairs, project, tuple_cmp}
-use Rattle.rc_tuple.specs.TupleLaws.{then_equal, tuple_order}
 use Rattle.rc_spec.specs.declared.spec.Spec.{Spec}
 use Rattle.rc_spec.specs.Contents.{CountedTuple, projections, how_many, content}
 use Rattle.rc_spec.specs.ContentsLaws.{rows_represent}

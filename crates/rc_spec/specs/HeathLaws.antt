@@ -1,17 +1,7 @@
 -- Laws of joins with the projections of a relation: where the common columns determine one side, a join loses and adds no tuple. (Heath's theorem.)
 use Rattle.std.specs.Prelude.{◌≡◌, ℕ, true, List, [], ◌∷◌, ◌⊎◌, map}
-use Rattle.std.specs.List.{filter, flat_map}
-use Rattle.std.specs.Ordering.{nat_cmp}
+use Rattle.rc_spec.specs.Imports.{filter, flat_map, nat_cmp, In, IsRising, same_rising, rising_gather, in_gather, gather_in, gather-rising, in_filter, filter_in, in_map, map_in, in_flat_map, flat_map_in, Within, union, inter, union_left, union_right, Pairs, project, agrees, pair_cmp, tuple_cmp, merge, Agree, pair_order, tuple_order, in_project, agree_from, agrees_to, in_merge, merge_left, merge_right, merge_none, one_pair, project-nothing, project_all, Agree-union, Agree-less, merge-merge, inter-same, IsRelation, SatisfiesOne, rising_of}
 use Rattle.std.proofs.Common.{inl, inr, sym, ap, subst, ◌∙◌}
-use Rattle.rc_tuple.specs.RisingSet.{In, IsRising}
-use Rattle.rc_tuple.specs.RisingSetLaws.{same_rising, rising_gather, in_gather, gather_in, gather-rising, in_filter, filter_in, in_map, map_in, in_flat_map, flat_map_in}
-use Rattle.rc_tuple.specs.ColSet.{Within, union, inter}
-use Rattle.rc_tuple.specs.ColSetLaws.{union_left, union_right}
-use Rattle.rc_tuple.specs.Tuple.{Pairs, project, agrees, pair_cmp, tuple_cmp, merge}
-use Rattle.rc_tuple.specs.TupleLaws.{Agree, pair_order, tuple_order, in_project, agree_from, agrees_to, in_merge, merge_left, merge_right, merge_none, one_pair}
-use Rattle.rc_tuple.specs.MergeLaws.{project-nothing, project_all, Agree-union, Agree-less, merge-merge, inter-same}
-use Rattle.rc_tuple.specs.Relation.{IsRelation, SatisfiesOne}
-use Rattle.rc_tuple.specs.RelationLaws.{rising_of}
 use Rattle.rc_spec.specs.Contents.{projections, join, join_all}
 
 -- ---- joins

@@ -1,8 +1,6 @@
 -- When the counts and the numbers of a specification are in range.
 use Rattle.std.specs.Prelude.{◌≡◌, ℕ, ◌<◌, ◌≤◌, List, [], length}
-use Rattle.rc_tuple.specs.RisingSet.{In}
-use Rattle.rc_tuple.specs.ColSet.{IsColSet}
-use Rattle.rc_tuple.specs.declared.dep.Dep.{Dep}
+use Rattle.rc_spec.specs.Imports.{In, IsColSet, Dep}
 use Rattle.rc_spec.specs.declared.items.Node.{Node}
 use Rattle.rc_spec.specs.declared.items.Edge.{Edge}
 use Rattle.rc_spec.specs.declared.items.Class.{Class}

@@ -1,14 +1,7 @@
 -- Laws of joins by columns: a join is the merges with the rows that a container finds by some columns.
 use Rattle.std.specs.Prelude.{◌≡◌, ℕ, true, List, filter, map}
-use Rattle.std.specs.List.{flat_map}
+use Rattle.rc_spec.specs.Imports.{flat_map, In, IsRising, gather, same_rising, same_gather, rising_filter, in_map, map_in, in_filter, filter_in, in_flat_map, flat_map_in, has, Within, Pairs, cols_of, project, agrees, agree_on, pair_cmp, tuple_cmp, merge, Agree, pair_order, tuple_order, in_project, project_in, agree_from, Agree-back, test_from_agree}
 use Rattle.std.proofs.Common.{sym, subst}
-use Rattle.rc_tuple.specs.RisingSet.{In, IsRising, gather}
-use Rattle.rc_tuple.specs.RisingSetLaws.{same_rising, same_gather, rising_filter, in_map, map_in, in_filter, filter_in, in_flat_map, flat_map_in}
-use Rattle.rc_tuple.specs.ColSet.{has, Within}
-use Rattle.rc_tuple.specs.Tuple.{Pairs, cols_of, project, agrees, agree_on, pair_cmp, tuple_cmp, merge}
-use Rattle.rc_tuple.specs.TupleLaws.{Agree, pair_order, tuple_order, in_project, project_in, agree_from}
-use Rattle.rc_tuple.specs.MergeLaws.{Agree-back}
-use Rattle.rc_tuple.specs.RelationLaws.{test_from_agree}
 use Rattle.rc_spec.specs.Contents.{join}
 
 -- ---- by columns

@@ -1,10 +1,6 @@
 -- Laws of adequacy, of stripes and of fragments, each named by the contract of a function.
 use Rattle.std.specs.Prelude.{◌≡◌, ℕ, ◌<◌, true, List, [], ◌∷◌, length}
-use Rattle.std.specs.List.{flat_map}
-use Rattle.rc_tuple.specs.RisingSet.{In, gather}
-use Rattle.rc_tuple.specs.ColSet.{Within}
-use Rattle.rc_tuple.specs.Tuple.{Pairs, cols_of, project, agrees}
-use Rattle.rc_tuple.specs.Relation.{IsRelation, Satisfies}
+use Rattle.rc_spec.specs.Imports.{flat_map, In, gather, Within, Pairs, cols_of, project, agrees, IsRelation, Satisfies}
 use Rattle.rc_spec.specs.declared.spec.Spec.{Spec}
 use Rattle.rc_spec.specs.Adequacy.{IsAdequate}
 use Rattle.rc_spec.specs.Calls.{all_columns}

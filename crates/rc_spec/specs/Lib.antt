@@ -37,3 +37,4 @@ pub mod RowsLaws
 pub mod Spec
 pub mod Stripes
 pub mod StripesLaws
+pub mod Imports

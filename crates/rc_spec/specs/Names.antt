@@ -1,8 +1,6 @@
 -- Names, and when the items of a specification are well named.
 use Rattle.std.specs.Prelude.{◌≡◌, ℕ, Bool, true, false, ◌==◌, ◌&&◌, ◌||◌, nat_le, List, [], ◌∷◌, ◌++◌, length, map}
-use Rattle.std.specs.List.{list_all}
-use Rattle.std.specs.Char.{is_ascii_digit, is_ascii_lowercase}
-use Rattle.rc_tuple.specs.RisingSet.{In, AreDistinct}
+use Rattle.rc_spec.specs.Imports.{list_all, is_ascii_digit, is_ascii_lowercase, In, AreDistinct}
 use Rattle.rc_spec.specs.declared.items.Column.{Column}
 use Rattle.rc_spec.specs.declared.items.Node.{Node}
 use Rattle.rc_spec.specs.declared.items.Edge.{Edge}

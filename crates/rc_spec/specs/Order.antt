@@ -1,7 +1,6 @@
 -- The topological order of a decomposition's nodes, of those that could come next always the first written.
 use Rattle.std.specs.Prelude.{◌≡◌, ℕ, ◌<◌, ◌≤◌, List, Some, length, take, get_or}
-use Rattle.std.specs.List.{slice_get}
-use Rattle.rc_tuple.specs.RisingSet.{In, AreDistinct}
+use Rattle.rc_spec.specs.Imports.{slice_get, In, AreDistinct}
 use Rattle.rc_spec.specs.declared.items.Edge.{Edge}
 use Rattle.rc_spec.specs.declared.spec.Spec.{Spec}
 use Rattle.rc_spec.specs.Acceptance.{IsSealed}

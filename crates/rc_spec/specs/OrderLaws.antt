@@ -1,10 +1,8 @@
 -- Laws of topological orders.
 use Rattle.std.specs.Prelude.{◌≡◌, ℕ, zero, suc, ◌<◌, List, [], ◌∷◌, Some, length, take, get_or}
-use Rattle.std.specs.List.{slice_get}
+use Rattle.rc_spec.specs.Imports.{slice_get, In, AreDistinct, in_slice_get}
 use Rattle.std.proofs.Common.{inl, inr, sym, ap, subst, arith}
 use Rattle.std.proofs.lemmas.Option.{slice_get_within, get_or_from_slice_get}
-use Rattle.rc_tuple.specs.RisingSet.{In, AreDistinct}
-use Rattle.rc_tuple.specs.RisingSetLaws.{in_slice_get}
 use Rattle.rc_spec.specs.declared.spec.Spec.{Spec}
 use Rattle.rc_spec.specs.First.{EachHolds}
 use Rattle.rc_spec.specs.InRange.{IsInRange}

@@ -1,11 +1,6 @@
 -- When the edges of a decomposition are well placed on lock classes (PLDI 2012, lock placement and striping), and the rules of operations.
 use Rattle.std.specs.Prelude.{◌≡◌, ℕ, ◌+◌, ◌<◌, ◌≤◌, ◌==◌, List, [], length, filter, take, get_or}
-use Rattle.std.specs.List.{find, sum_by}
-use Rattle.std.specs.Option.{option_map_or}
-use Rattle.std.specs.Ordering.{nat_cmp}
-use Rattle.rc_tuple.specs.RisingSet.{AreDistinct, gather}
-use Rattle.rc_tuple.specs.ColSet.{Within}
-use Rattle.rc_tuple.specs.Relation.{Follows}
+use Rattle.rc_spec.specs.Imports.{find, sum_by, option_map_or, nat_cmp, AreDistinct, gather, Within, Follows}
 use Rattle.rc_spec.specs.declared.items.Class.{Class}
 use Rattle.rc_spec.specs.declared.items.EdgeKind.TheVariants.{Hash}
 use Rattle.rc_spec.specs.declared.items.Op.{Op}

@@ -1,12 +1,9 @@
 -- Laws of placements and stripes.
 use Rattle.std.proofs.Common.{◌≡◌, ℕ, zero, suc, ◌+◌, ◌<◌, ◌≤◌, ◌==◌, Bool, true, false, cond, List, [], ◌∷◌, length, take, Some, refl, ap, subst, inl, inr, arith}
-use Rattle.std.specs.List.{find, filter, fold, slice_get, sum_by}
+use Rattle.rc_spec.specs.Imports.{find, filter, fold, slice_get, sum_by, option_map_or, In, Pairs, value}
 use Rattle.std.proofs.lemmas.List.{take_all}
 use Rattle.std.proofs.lemmas.List.Sums.{sum_by_more_le}
 use Rattle.std.proofs.Math.Nat.{mod-lt}
-use Rattle.std.specs.Option.{option_map_or}
-use Rattle.rc_tuple.specs.RisingSet.{In}
-use Rattle.rc_tuple.specs.Tuple.{Pairs, value}
 use Rattle.rc_spec.specs.declared.items.Class.{Class}
 use Rattle.rc_spec.specs.declared.items.Place.{Place}
 use Rattle.rc_spec.specs.declared.spec.Spec.{Spec}

@@ -1,13 +1,6 @@
 -- What a call does to a relation, and what it answers, by filters over the list of tuples.
 use Rattle.std.specs.Prelude.{ℕ, ◌+◌, nat_le, not, List, [], ◌∷◌, length, map, filter, Option, Some, None, if◌then◌else◌}
-use Rattle.std.specs.declared.cmp.Ordering.{Ordering}
-use Rattle.std.specs.Ordering.{nat_cmp}
-use Rattle.std.specs.Cmp.Lexicographic.{slice_cmp}
-use Rattle.std.specs.List.{list_any, slice_get}
-use Rattle.rc_tuple.specs.RisingSet.{put, gather}
-use Rattle.rc_tuple.specs.Tuple.{Pairs, agree_on, matches, pick, tuple_cmp, tuple_eq}
-use Rattle.rc_tuple.specs.Relation.{breaks}
-use Rattle.rc_tuple.specs.declared.dep.Dep.{Dep}
+use Rattle.rc_spec.specs.Imports.{Ordering, nat_cmp, slice_cmp, list_any, slice_get, put, gather, Pairs, agree_on, matches, pick, tuple_cmp, tuple_eq, breaks, Dep}
 use Rattle.rc_spec.specs.declared.items.Op.{Op}
 use Rattle.rc_spec.specs.declared.items.OpKind.{OpKind}
 use Rattle.rc_spec.specs.declared.items.OpKind.TheVariants.{Query, Insert, Remove, Update}

@@ -1,16 +1,6 @@
 -- What the plain step keeps: the order of the tuples, and the dependencies. And by how much it grows.
 use Rattle.std.proofs.Common.{◌≡◌, ℕ, ◌+◌, ◌≤◌, Bool, true, false, cond, not, List, [], ◌∷◌, Option, Some, None, length, refl, sym, ap, ◌∙◌, ◌⊎◌, inl, inr, subst, arith}
-use Rattle.std.specs.List.{list_any, filter, slice_get}
-use Rattle.std.specs.Ordering.{match_ordering}
-use Rattle.std.specs.declared.cmp.Ordering.{Ordering}
-use Rattle.std.specs.declared.cmp.Ordering.TheVariants.{Less, Equal, Greater}
-use Rattle.rc_tuple.specs.RisingSet.{In, IsRising, put}
-use Rattle.rc_tuple.specs.RisingSetLaws.{in_put, rising_put, rising_filter, in_filter}
-use Rattle.rc_tuple.specs.Tuple.{Pairs, agree_on, matches, tuple_cmp, tuple_eq}
-use Rattle.rc_tuple.specs.TupleLaws.{tuple_order}
-use Rattle.rc_tuple.specs.Relation.{Satisfies, SatisfiesOne, breaks}
-use Rattle.rc_tuple.specs.RelationLaws.{satisfies_from_test, satisfies_fewer}
-use Rattle.rc_tuple.specs.declared.dep.Dep.{Dep}
+use Rattle.rc_spec.specs.Imports.{list_any, filter, slice_get, match_ordering, Ordering, Less, Equal, Greater, In, IsRising, put, in_put, rising_put, rising_filter, in_filter, Pairs, agree_on, matches, tuple_cmp, tuple_eq, tuple_order, Satisfies, SatisfiesOne, breaks, satisfies_from_test, satisfies_fewer, Dep}
 use Rattle.rc_spec.specs.declared.items.Op.{Op}
 use Rattle.rc_spec.specs.declared.items.OpKind.{OpKind}
 use Rattle.rc_spec.specs.declared.items.OpKind.TheVariants.{Query, Insert, Remove, Update}

@@ -1,7 +1,6 @@
 -- The bounds that a call gives for the range columns of a query.
 use Rattle.std.specs.Prelude.{ℕ, ◌<◌, ◌^◌, nat_le, Bool, List, [], ◌&&◌, All}
-use Rattle.std.specs.List.{list_all}
-use Rattle.rc_tuple.specs.Tuple.{Pairs, value, matches}
+use Rattle.rc_spec.specs.Imports.{list_all, Pairs, value, matches}
 use Rattle.rc_spec.specs.declared.range.Range.{Range}
 use Rattle.rc_spec.specs.declared.items.OpKind.{OpKind}
 use Rattle.rc_spec.specs.declared.items.OpKind.TheVariants.{Query, Insert, Remove, Update}

@@ -1,9 +1,7 @@
 -- Laws of ranges: of projections.
 use Rattle.std.specs.Prelude.{◌≡◌, ℕ, nat_le, List, [], ◌∷◌, ◌&&◌, map}
 use Rattle.std.proofs.Common.{inl, inr, refl, ap, ◌∙◌}
-use Rattle.rc_tuple.specs.ColSet.{Within}
-use Rattle.rc_tuple.specs.Tuple.{Pairs, project, value}
-use Rattle.rc_tuple.specs.MergeLaws.{value-project}
+use Rattle.rc_spec.specs.Imports.{Within, Pairs, project, value, value-project}
 use Rattle.rc_spec.specs.declared.range.Range.{Range}
 use Rattle.rc_spec.specs.Ranges.{range_column, is_within_range, in_ranges}
 

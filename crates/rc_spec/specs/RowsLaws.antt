@@ -1,11 +1,6 @@
 -- Rows put into a set of rows.
 use Rattle.std.proofs.Common.{◌≡◌, ℕ, List, [], ◌∷◌, map, refl, ap, Vec, Global}
-use Rattle.std.specs.declared.cmp.Ordering.{Ordering}
-use Rattle.std.specs.declared.cmp.Ordering.TheVariants.{Less, Equal, Greater}
-use Rattle.std.specs.Ordering.{nat_cmp, match_ordering}
-use Rattle.std.specs.Cmp.Lexicographic.{slice_cmp}
-use Rattle.std.specs.BTreeSet.{insert_key}
-use Rattle.rc_tuple.specs.RisingSet.{put}
+use Rattle.rc_spec.specs.Imports.{Ordering, Less, Equal, Greater, nat_cmp, match_ordering, slice_cmp, insert_key, put}
 use Rattle.rc_spec.specs.Plain.{row_cmp}
 
 -- the order of the vectors is that of their lists

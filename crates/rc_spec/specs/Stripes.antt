@@ -1,7 +1,6 @@
 -- The stripes of lock classes. All stripes are numbered class by class; those of a class are its band. (PLDI 2012, lock striping.)
 use Rattle.std.specs.Prelude.{ℕ, ◌+◌, ◌*◌, ◌%◌, ◌^◌, List, length}
-use Rattle.std.specs.List.{fold}
-use Rattle.rc_tuple.specs.Tuple.{Pairs, value}
+use Rattle.rc_spec.specs.Imports.{fold, Pairs, value}
 use Rattle.rc_spec.specs.declared.items.Class.{Class}
 use Rattle.rc_spec.specs.declared.spec.Spec.{Spec}
 use Rattle.rc_spec.specs.Placement.{class_at, stripes_of_first}

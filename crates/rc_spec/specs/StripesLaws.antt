@@ -1,15 +1,11 @@
 -- Laws of stripes: which tuples fall on one, and that each is of one class.
 use Rattle.std.specs.Prelude.{◌≡◌, ℕ, ◌+◌, ◌%◌, ◌<◌, ◌≤◌, List, [], ◌∷◌, length, take, get_or}
-use Rattle.std.specs.List.{fold, sum_by}
+use Rattle.rc_spec.specs.Imports.{fold, sum_by, In, Pairs, value, project, agree_from, value-project, Agree-value}
 use Rattle.std.proofs.Common.{inl, inr, refl, sym, ap, subst, ◌∙◌, arith}
 use Rattle.std.proofs.lemmas.Bool.{cases_order}
 use Rattle.std.proofs.lemmas.List.{take-take, get_or-take, length-take}
 use Rattle.std.proofs.lemmas.List.Sums.{sum_by_more_le}
 use Rattle.std.proofs.Math.Nat.{mod-lt}
-use Rattle.rc_tuple.specs.RisingSet.{In}
-use Rattle.rc_tuple.specs.Tuple.{Pairs, value, project}
-use Rattle.rc_tuple.specs.TupleLaws.{agree_from}
-use Rattle.rc_tuple.specs.MergeLaws.{value-project, Agree-value}
 use Rattle.rc_spec.specs.declared.items.Class.{Class}
 use Rattle.rc_spec.specs.declared.spec.Spec.{Spec}
 use Rattle.rc_spec.specs.Decomposition.{bound, edge_at}

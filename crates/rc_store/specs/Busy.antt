@@ -1,22 +1,7 @@
 -- Why a call was refused. (PLDI 2012, well-locked query plans.)
 use Rattle.std.specs.Prelude.{◌≡◌, ℕ, ◌<◌, List, [], ◌∷◌, Some}
-use Rattle.std.specs.List.{flat_map}
-use Rattle.rc_tuple.specs.RisingSet.{In, gather}
-use Rattle.rc_spec.specs.declared.call.Call.{Call}
-use Rattle.rc_spec.specs.declared.lock.Found.{Found}
-use Rattle.rc_spec.specs.declared.lock.Mode.{Mode}
-use Rattle.rc_spec.specs.Fragments.{EdgeRow, edge_row_cmp}
-use Rattle.rc_plan.specs.Compiled.{plan_at}
-use Rattle.rc_plan.specs.Evaluation.{eval}
-use Rattle.rc_plan.specs.NamedStripes.{IsNamedBy}
-use Rattle.rc_spec.specs.Locks.{StripeLock}
-use Rattle.rc_plan.specs.Turns.{with_plans}
-use Rattle.rc_core.specs.declared.state.Hold.{Hold}
-use Rattle.rc_machine.specs.declared.stop.Stop.{Stop}
+use Rattle.rc_store.specs.Imports.{flat_map, In, gather, Call, Found, Mode, EdgeRow, edge_row_cmp, plan_at, eval, IsNamedBy, StripeLock, with_plans, Hold, Stop, group_locks, PassSeen, RowSeen, compiled_of, core_of, spec_of, KeepsOut}
 use Rattle.rc_machine.specs.declared.stop.Stop.TheVariants as stop
-use Rattle.rc_multi.specs.GroupLocks.{group_locks}
-use Rattle.rc_row.specs.Passes.{PassSeen, RowSeen, compiled_of, core_of, spec_of}
-use Rattle.rc_row.specs.Standings.{KeepsOut}
 use Rattle.rc_store.specs.declared.receipt.TryFault.{TryFault}
 use Rattle.rc_store.specs.declared.receipt.TryFault.TheVariants.{Busy, Memory, Spent}
 

@@ -2,24 +2,9 @@
 use Rattle.std.specs.Prelude.{◌≡◌, ℕ, suc, ◌^◌, Bool, List, Option, None, Some, false}
 use Rattle.std.proofs.Common.{sym, ap, subst, ◌∙◌, inl, inr, arith}
 use Rattle.std.proofs.lemmas.List.Folds.{flat_map-map}
-use Rattle.rc_tuple.specs.RisingSet.{In, gather}
-use Rattle.rc_spec.specs.declared.call.Call.{Call}
-use Rattle.rc_spec.specs.declared.lock.Found.{Found}
-use Rattle.rc_spec.specs.declared.lock.Mode.{Mode}
-use Rattle.rc_spec.specs.Calls.{Fits}
-use Rattle.rc_spec.specs.Fragments.{EdgeRow, edge_row_cmp}
-use Rattle.rc_fragment.specs.declared.held.Held.{Held}
-use Rattle.rc_fragment.specs.Holder.{HasRisen}
-use Rattle.rc_plan.specs.Compiled.{IsCompiled, plan_at}
-use Rattle.rc_plan.specs.Evaluation.{eval}
-use Rattle.rc_core.specs.declared.state.Hold.{Hold}
-use Rattle.rc_machine.specs.Machine.{HasRefusedCall, rows_taken}
-use Rattle.rc_row.specs.HeldRows.{HeldRows}
-use Rattle.rc_row.specs.Passes.{PassSeen, RowSeen, compiled_of, core_of, holds_taken, spec_of}
-use Rattle.rc_row.specs.Standings.{KeepsOut}
+use Rattle.rc_store.specs.Imports.{In, gather, Call, Found, Mode, Fits, EdgeRow, edge_row_cmp, Held, HasRisen, IsCompiled, plan_at, eval, Hold, HasRefusedCall, rows_taken, HeldRows, PassSeen, RowSeen, compiled_of, core_of, holds_taken, spec_of, KeepsOut, hold_taken}
 use Rattle.rc_store.specs.declared.lender.Refused.{Refused}
 use Rattle.rc_store.specs.Busy.{IsBusy, rows_of}
-use Rattle.rc_multi.specs.HeldStripes.{hold_taken}
 use Rattle.rc_store.specs.Lending.{IsToldOf, IsUnrefused, held_stripes, lending}
 use Rattle.rc_store.specs.LendingLaws.{all_taken-held}
 use Rattle.rc_store.specs.NamedLaws.{compiled_named_law}

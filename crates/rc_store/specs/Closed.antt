@@ -1,23 +1,6 @@
 -- What a closed store leaves. (PLDI 2012, serializable transactions: the calls of all passes are one legal history.)
 use Rattle.std.specs.Prelude.{◌≡◌, ℕ, ◌<◌, List, [], Option, Some, None, IfSome, length, map}
-use Rattle.std.specs.List.{range_with_len, slice_get}
-use Rattle.rc_tuple.specs.RisingSet.{In}
-use Rattle.rc_spec.specs.declared.spec.Spec.{Spec}
-use Rattle.rc_spec.specs.Fragments.{fragment_of}
-use Rattle.rc_spec.specs.Stripes.{stripe_total}
-use Rattle.rc_fragment.specs.Keep.{KeptRows}
-use Rattle.rc_plan.specs.Compiled.{SpecWithPlans}
-use Rattle.rc_rel.specs.declared.entry.Entry.{Entry}
-use Rattle.rc_rel.specs.History.{IsPrefix, own, own_placed, replay}
-use Rattle.rc_core.specs.Good.{IsGoodHistory}
-use Rattle.rc_core.specs.Resumed.{MayGoOn}
-use Rattle.rc_journal.specs.PartEntries.{PartEntries}
-use Rattle.rc_instance.specs.Instance.{IsOfRelation, Stripe, held_from, kept_stripe}
-use Rattle.rc_row.specs.declared.close.EndedPass.{EndedPass}
-use Rattle.rc_row.specs.declared.keeping.Keeping.{Keeping}
-use Rattle.rc_row.specs.declared.keeping.Keeping.TheVariants.{Counts, Entries}
-use Rattle.rc_row.specs.Law.{AreKnown, history_by, kept_of}
-use Rattle.rc_row.specs.Passes.{PassSeen, compiled_of, core_of, spec_of}
+use Rattle.rc_store.specs.Imports.{range_with_len, slice_get, In, Spec, fragment_of, stripe_total, KeptRows, SpecWithPlans, Entry, IsPrefix, own, own_placed, replay, IsGoodHistory, MayGoOn, PartEntries, IsOfRelation, Stripe, held_from, kept_stripe, EndedPass, Keeping, Counts, Entries, AreKnown, history_by, kept_of, PassSeen, compiled_of, core_of, spec_of}
 use Rattle.rc_store.specs.Store.{StoreSeen}
 
 -- the specification with its plans, the fragments of all stripes, the entries by place where they were kept, how many each

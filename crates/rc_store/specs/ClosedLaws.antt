@@ -1,40 +1,10 @@
 -- Laws of closed stores.
 use Rattle.std.proofs.Common.{◌≡◌, ℕ, zero, suc, ◌+◌, ◌-◌, ◌<◌, ◌^◌, List, [], ◌∷◌, Option, Some, None, length, map, min, refl, sym, ap, subst, ◌∙◌, arith}
-use Rattle.std.specs.Prelude.{All, IfSome}
-use Rattle.std.specs.List.{cons_option, filter_map, range_with_len, slice_get, sum, sum_by}
+use Rattle.rc_store.specs.Imports.{All, IfSome, cons_option, filter_map, range_with_len, slice_get, sum, sum_by, IsRelation, Satisfies, in_slice_get, IsSealed, all_columns, fragment_of, stripe_total, Spec, KeptRows, Entry, Placed, IsPrefix, own, own_placed, replay, replay_in_states, states_are_relations, states_satisfy, own_length, same_places, MayGoOn, made_at, made_there, shares_add_up, own_parts, AreNumbersBelow, ArePartsOf, places_of, places_are_numbers, PartEntries, HaveOneTable, IsOfRelation, Stripe, held_from, kept_stripe, made_law, EndedPass, Keeping, Counts, Entries, AreEnded, HasHistory, IsEndedPass, history_by, kept_of, AreOwnKept, IsPassOf, KeepsAs, PassSeen, RowSeen, compiled_of, core_of, spec_of}
 use Rattle.std.proofs.lemmas.List.{length-map}
 use Rattle.std.proofs.lemmas.List.Sums.{sum_by-cons}
 use Rattle.std.proofs.lemmas.Option.{get_or_from_slice_get, same_Some, slice_get_within}
-use Rattle.rc_tuple.specs.Relation.{IsRelation, Satisfies}
-use Rattle.rc_tuple.specs.RisingSetLaws.{in_slice_get}
-use Rattle.rc_spec.specs.Acceptance.{IsSealed}
-use Rattle.rc_spec.specs.Calls.{all_columns}
-use Rattle.rc_spec.specs.Fragments.{fragment_of}
-use Rattle.rc_spec.specs.Stripes.{stripe_total}
 use Rattle.std.proofs.lemmas.List.FromFn.{length-map-range_with_len}
-use Rattle.rc_spec.specs.declared.spec.Spec.{Spec}
-use Rattle.rc_fragment.specs.Keep.{KeptRows}
-use Rattle.rc_rel.specs.declared.entry.Entry.{Entry}
-use Rattle.rc_rel.specs.declared.entry.Placed.{Placed}
-use Rattle.rc_rel.specs.History.{IsPrefix, own, own_placed, replay}
-use Rattle.rc_rel.specs.HistoryLaws.{replay_in_states, states_are_relations, states_satisfy}
-use Rattle.rc_rel.specs.OwnLaws.{own_length, same_places}
-use Rattle.rc_core.specs.Resumed.{MayGoOn}
-use Rattle.rc_core.specs.ResumedLaws.{made_at, made_there}
-use Rattle.rc_rel.specs.SharesLaws.{shares_add_up}
-use Rattle.rc_journal.specs.ByPassLaws.{own_parts}
-use Rattle.rc_journal.specs.Merge.{AreNumbersBelow, ArePartsOf, places_of}
-use Rattle.rc_journal.specs.MergeLaws.{places_are_numbers}
-use Rattle.rc_journal.specs.PartEntries.{PartEntries}
-use Rattle.rc_instance.specs.Instance.{HaveOneTable, IsOfRelation, Stripe, held_from, kept_stripe}
-use Rattle.rc_instance.specs.InstanceLaws.{made_law}
-use Rattle.rc_row.specs.declared.close.EndedPass.{EndedPass}
-use Rattle.rc_row.specs.declared.keeping.Keeping.{Keeping}
-use Rattle.rc_row.specs.declared.keeping.Keeping.TheVariants.{Counts, Entries}
-use Rattle.rc_row.specs.Ended.{AreEnded, HasHistory, IsEndedPass}
-use Rattle.rc_row.specs.Law.{history_by, kept_of}
-use Rattle.rc_row.specs.PassInside.{AreOwnKept}
-use Rattle.rc_row.specs.Passes.{IsPassOf, KeepsAs, PassSeen, RowSeen, compiled_of, core_of, spec_of}
 use Rattle.rc_store.specs.Closed.{AreKeptOf, ClosedSeen, HasClosed, HasOneHistory, Leaves, left_by, made_by, where_kept}
 use Rattle.rc_store.specs.Store.{StoreSeen}
 

@@ -1,38 +1,11 @@
 -- What a run of a plan leaves is what the commit of its entry asks for. (PLDI 2012, two-phase locks.)
 use Rattle.std.specs.Prelude.{◌≡◌, ℕ, ◌<◌, ◌^◌, List, [], ◌∷◌, ◌++◌, Option, map, length}
-use Rattle.std.specs.List.{flat_map}
-use Rattle.std.specs.Ordering.{nat_cmp, ordering_then}
-use Rattle.std.specs.declared.cmp.Ordering.{Ordering}
-use Rattle.std.specs.declared.cmp.Ordering.TheVariants.{Less}
+use Rattle.rc_store.specs.Imports.{flat_map, nat_cmp, ordering_then, Ordering, Less, In, IsRising, gather, gather-rising, in_map, map_in, nat_order, not_below_itself, Pairs, Call, Reply, Mode, Exclusive, Shared, Spec, Fits, edge_row_cmp, fragment_of, on_stripes, rows_on, parts_law, pieces_law, plain, AreOfRelation, HeldStripe, Statement, SpecWithPlans, plan_at, eval, StripeLock, Suffices, AreHeld, mode_number, stripe_lock_cmp, stripes_of, stripe_lock_order, stripes_of_in, Hold, PassState, MayCommit, committed, renewed, renewed_as, hold, rows_held, HasEvaluated, HasServed, rows_taken, stripes_held, next_entry, all_now, all_taken, hold_now, hold_taken}
 use Rattle.std.proofs.Common.{refl, sym, ap, subst, ◌∙◌, inl, inr, arith}
 use Rattle.std.proofs.lemmas.List.Folds.{flat_map-map}
 use Rattle.std.proofs.lemmas.Simd.{map-map}
-use Rattle.rc_tuple.specs.RisingSet.{In, IsRising, gather}
-use Rattle.rc_tuple.specs.RisingSetLaws.{gather-rising, in_map, map_in, nat_order, not_below_itself}
-use Rattle.rc_tuple.specs.Tuple.{Pairs}
-use Rattle.rc_spec.specs.declared.call.Call.{Call}
-use Rattle.rc_spec.specs.declared.call.Reply.{Reply}
-use Rattle.rc_spec.specs.declared.lock.Mode.{Mode}
-use Rattle.rc_spec.specs.declared.lock.Mode.TheVariants.{Exclusive, Shared}
-use Rattle.rc_spec.specs.declared.spec.Spec.{Spec}
-use Rattle.rc_spec.specs.Calls.{Fits}
-use Rattle.rc_spec.specs.Fragments.{edge_row_cmp, fragment_of, on_stripes, rows_on}
-use Rattle.rc_spec.specs.FragmentsLaws.{parts_law, pieces_law}
-use Rattle.rc_spec.specs.Plain.{plain}
-use Rattle.rc_fragment.specs.Holder.{AreOfRelation, HeldStripe}
-use Rattle.rc_plan.specs.declared.statement.Statement.{Statement}
-use Rattle.rc_plan.specs.Compiled.{SpecWithPlans, plan_at}
-use Rattle.rc_plan.specs.Evaluation.{eval}
-use Rattle.rc_spec.specs.Locks.{StripeLock, Suffices}
-use Rattle.rc_plan.specs.StripeLocks.{AreHeld, mode_number, stripe_lock_cmp, stripes_of}
-use Rattle.rc_plan.specs.StripeLocksLaws.{stripe_lock_order, stripes_of_in}
-use Rattle.rc_core.specs.declared.state.Hold.{Hold}
-use Rattle.rc_core.specs.declared.state.PassState.{PassState}
-use Rattle.rc_core.specs.Passes.{MayCommit, committed, renewed, renewed_as}
-use Rattle.rc_core.specs.State.{hold, locks_of, rows_held}
-use Rattle.rc_machine.specs.Machine.{HasEvaluated, HasServed, locks_of as locks_held, rows_taken, stripes_held}
-use Rattle.rc_row.specs.Passes.{next_entry}
-use Rattle.rc_multi.specs.HeldStripes.{all_now, all_taken, hold_now, hold_taken}
+use Rattle.rc_core.specs.State.{locks_of}
+use Rattle.rc_machine.specs.Machine.{locks_of as locks_held}
 use Rattle.rc_store.specs.Store.{HoldsExactly, one_step}
 
 -- ---- rows and locks of what is held

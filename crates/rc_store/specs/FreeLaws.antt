@@ -1,9 +1,7 @@
 -- The passes of a store that was just built are free.
 use Rattle.std.proofs.Common.{ℕ, ◌<◌, All, refl, sym, subst, arith}
 use Rattle.std.proofs.lemmas.List.FromFn.{length-map-range_with_len, get_or-map-range_with_len}
-use Rattle.rc_row.specs.declared.keeping.Keeping.{Keeping}
-use Rattle.rc_row.specs.declared.keeping.Keeping.TheVariants.{Counts, Entries}
-use Rattle.rc_row.specs.Passes.{KeepsAs, PassSeen, new_pass, new_passes, none_kept}
+use Rattle.rc_store.specs.Imports.{Keeping, Counts, Entries, KeepsAs, PassSeen, new_pass, new_passes, none_kept}
 use Rattle.rc_store.specs.Store.{IsFree, StoreSeen}
 
 keeps_none : (keeping : Keeping) → KeepsAs keeping (none_kept keeping)

@@ -1,43 +1,12 @@
 -- What the run of a group's plans over a lent row and pass leaves, and that the core allows its commit as one entry. (PLDI 2012, serializable transactions by two-phase locks.)
 use Rattle.std.specs.Prelude.{◌≡◌, ℕ, ◌<◌, ◌≤◌, ◌^◌, Bool, List, [], ◌∷◌, length, map, Option, None, Some}
-use Rattle.std.specs.List.{AllByRecursion}
-use Rattle.std.specs.Ordering.{nat_cmp}
+use Rattle.rc_store.specs.Imports.{AllByRecursion, nat_cmp, In, IsRising, in_contains, in_map, map_in, Pairs, Call, Reply, Spec, Fits, StripeLock, HeldStripe, held_of, IsAtRest, IsCompiled, plan_at, stripes_of, CallWithPlan, with_plan, with_plans, Step, StepsFit, with_replies, with_replies-parts, Hold, PassState, HoldsNoMore, IsOfClassLocked, AreAsTaken, locks_of, stripes_held, group_committed, group_may_commit, AreOfRelationFor, Suffice, group_locks, group_locks_are_locked, group_locks_below, group_locks_rise, group_locks_suffice, HasRunGroup, steps_fit, all_taken, hold_taken, HeldRows, AreAtRest, HasSpare, PassSeen, RowSeen, compiled_of, core_of, holds_taken, spec_of, HaveOneRelation, refusals_first}
 use Rattle.std.proofs.Common.{refl, sym, ap, subst, ◌∙◌, arith}
 use Rattle.std.proofs.lemmas.List.{length-map}
 use Rattle.std.proofs.lemmas.List.Elements.{All-contains}
 use Rattle.std.proofs.lemmas.Simd.{map-map}
-use Rattle.rc_tuple.specs.RisingSet.{In, IsRising}
-use Rattle.rc_tuple.specs.RisingSetLaws.{in_contains, in_map, map_in}
-use Rattle.rc_tuple.specs.Tuple.{Pairs}
-use Rattle.rc_spec.specs.declared.call.Call.{Call}
-use Rattle.rc_spec.specs.declared.call.Reply.{Reply}
-use Rattle.rc_spec.specs.declared.spec.Spec.{Spec}
-use Rattle.rc_spec.specs.Calls.{Fits}
-use Rattle.rc_spec.specs.Locks.{StripeLock}
-use Rattle.rc_fragment.specs.Holder.{HeldStripe, held_of}
-use Rattle.rc_fragment.specs.Keep.{IsAtRest}
-use Rattle.rc_plan.specs.Compiled.{IsCompiled, plan_at}
-use Rattle.rc_plan.specs.StripeLocks.{stripes_of}
-use Rattle.rc_plan.specs.Turns.{CallWithPlan, with_plan, with_plans}
-use Rattle.rc_rel.specs.declared.entry.Step.{Step}
-use Rattle.rc_rel.specs.History.{StepsFit, with_replies}
-use Rattle.rc_rel.specs.HistoryLaws.{with_replies-parts}
-use Rattle.rc_core.specs.declared.state.Hold.{Hold}
-use Rattle.rc_core.specs.declared.state.PassState.{PassState}
-use Rattle.rc_core.specs.Passes.{HoldsNoMore, IsOfClassLocked}
 use Rattle.rc_core.specs.State.{locks_of as locks_held}
-use Rattle.rc_machine.specs.Machine.{AreAsTaken, locks_of, stripes_held}
-use Rattle.rc_multi.specs.CommitLaws.{group_committed, group_may_commit}
-use Rattle.rc_multi.specs.Group.{AreOfRelationFor, Suffice}
-use Rattle.rc_multi.specs.GroupLocks.{group_locks}
-use Rattle.rc_multi.specs.GroupLocksLaws.{group_locks_are_locked, group_locks_below, group_locks_rise, group_locks_suffice}
-use Rattle.rc_multi.specs.GroupRun.{HasRunGroup}
-use Rattle.rc_multi.specs.GroupRunLaws.{steps_fit}
-use Rattle.rc_multi.specs.HeldStripes.{all_taken, hold_taken}
-use Rattle.rc_row.specs.HeldRows.{HeldRows}
-use Rattle.rc_row.specs.Passes.{AreAtRest, HasSpare, PassSeen, RowSeen, compiled_of, core_of, holds_taken, spec_of, stripes_of as row_stripes}
-use Rattle.rc_row.specs.Standings.{HaveOneRelation}
-use Rattle.rc_row.specs.StandingsLaws.{refusals_first}
+use Rattle.rc_row.specs.Passes.{stripes_of as row_stripes}
 use Rattle.rc_store.specs.declared.lender.Refused.{Refused}
 use Rattle.rc_store.specs.Lending.{IsLentSo, IsOnTheWay, Lent, held_stripe, held_stripes, lending}
 use Rattle.rc_store.specs.LendingLaws.{all_now-held, all_taken-held, held_of-lending}

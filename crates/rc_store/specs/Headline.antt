@@ -12,17 +12,7 @@
 --   receipts       rc_store: Store (HasMadeEntry, HasMade, HasMadeGroup, IsAsBefore), Receipts (how a pass was told); rc_row: Passes (HasLookedAt, with_note)
 --   the end        rc_store: Closed (HasClosed, Leaves)
 use Rattle.std.specs.Prelude.{◌≡◌, ℕ, List, [], ◌∷◌, ◌++◌, All, Some, length}
-use Rattle.std.specs.List.{slice_get}
-use Rattle.rc_tuple.specs.RisingSet.{In}
-use Rattle.rc_tuple.specs.Relation.{Satisfies}
-use Rattle.rc_spec.specs.declared.spec.Spec.{Spec}
-use Rattle.rc_rel.specs.declared.entry.Entry.{Entry}
-use Rattle.rc_rel.specs.declared.entry.Step.{Step}
-use Rattle.rc_rel.specs.History.{AreLegalFrom, IsPrefix, after_steps, own_placed, replay}
-use Rattle.rc_core.specs.Passes.{next_of}
-use Rattle.rc_core.specs.Good.{IsGoodHistory}
-use Rattle.rc_core.specs.declared.state.PassState.{PassState}
-use Rattle.rc_row.specs.Passes.{PassSeen, core_of, spec_of}
+use Rattle.rc_store.specs.Imports.{slice_get, In, Satisfies, Spec, Entry, Step, AreLegalFrom, IsPrefix, after_steps, own_placed, replay, next_of, IsGoodHistory, PassState, PassSeen, core_of, spec_of}
 use Rattle.rc_store.specs.Closed.{ClosedSeen, HasClosed}
 use Rattle.rc_store.specs.Store.{HasMadeEntry, StoreSeen}
 

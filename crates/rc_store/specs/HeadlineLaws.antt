@@ -1,17 +1,8 @@
 -- The headline of a store, from its laws.
 use Rattle.std.specs.Prelude.{◌≡◌, ℕ, List, Some}
-use Rattle.std.specs.List.{slice_get}
+use Rattle.rc_store.specs.Imports.{slice_get, In, in_contains, Entry, Step, IsPrefix, own_placed, replay, replay_in_states, states_satisfy, PassState, next_of, PassSeen, core_of, spec_of}
 use Rattle.std.proofs.Common.{sym, ap, ◌∙◌}
 use Rattle.std.proofs.lemmas.List.Elements.{All-contains}
-use Rattle.rc_tuple.specs.RisingSet.{In}
-use Rattle.rc_tuple.specs.RisingSetLaws.{in_contains}
-use Rattle.rc_rel.specs.declared.entry.Entry.{Entry}
-use Rattle.rc_rel.specs.declared.entry.Step.{Step}
-use Rattle.rc_rel.specs.History.{IsPrefix, own_placed, replay}
-use Rattle.rc_rel.specs.HistoryLaws.{replay_in_states, states_satisfy}
-use Rattle.rc_core.specs.declared.state.PassState.{PassState}
-use Rattle.rc_core.specs.Passes.{next_of}
-use Rattle.rc_row.specs.Passes.{PassSeen, core_of, spec_of}
 use Rattle.rc_store.specs.Closed.{ClosedSeen, HasClosed}
 use Rattle.rc_store.specs.Headline.{IsInHistory, IsReceipt, ReceiptsMeanOneHistory, history_of}
 use Rattle.rc_store.specs.ReceiptLaws.{begins_closed, entries_are_plain, there_within}

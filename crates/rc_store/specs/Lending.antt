@@ -1,12 +1,7 @@
 -- What the holder of a call tells its plan of a row and a pass. (PLDI 2012, two-phase plans over striped locks.)
 use Rattle.std.specs.Prelude.{◌≡◌, ℕ, suc, ◌<◌, Bool, false, List, map, replicate, Option, Some, None}
-use Rattle.rc_spec.specs.declared.spec.Spec.{Spec}
-use Rattle.rc_fragment.specs.Fragment.{edge_table}
-use Rattle.rc_fragment.specs.Holder.{HeldStripe, Holding, LentStripe, RefusedTake}
-use Rattle.rc_row.specs.declared.law.Standing.{Standing}
-use Rattle.rc_row.specs.HeldRows.{HeldRows}
-use Rattle.rc_row.specs.Passes.{PassSeen, RowSeen, core_of, holds_taken, spec_of, stripes_of}
-use Rattle.rc_row.specs.Standings.{HaveOneRelation, KeepsOut, KeepsRefusals}
+use Rattle.rc_store.specs.Imports.{Spec, edge_table, HeldStripe, Holding, LentStripe, RefusedTake, Standing, HeldRows, PassSeen, RowSeen, core_of, holds_taken, spec_of, HaveOneRelation, KeepsOut, KeepsRefusals}
+use Rattle.rc_row.specs.Passes.{stripes_of}
 use Rattle.rc_store.specs.declared.lender.Refused.{Refused}
 
 -- ---- what is lent

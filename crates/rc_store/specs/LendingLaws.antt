@@ -4,32 +4,10 @@ use Rattle.std.proofs.Common.{refl, sym, ap, subst, ◌∙◌, inl, inr, arith}
 use Rattle.std.proofs.lemmas.List.{length-replicate}
 use Rattle.std.proofs.lemmas.List.Elements.{All-cons, All-contains, All-map, All-nil}
 use Rattle.std.proofs.lemmas.Simd.{map-map}
-use Rattle.rc_tuple.specs.RelationLaws.{satisfies_none}
-use Rattle.rc_tuple.specs.RisingSet.{In}
-use Rattle.rc_tuple.specs.RisingSetLaws.{in_contains, in_map, map_in}
-use Rattle.rc_tuple.specs.Tuple.{Pairs}
-use Rattle.rc_spec.specs.declared.lock.Found.{Found}
-use Rattle.rc_spec.specs.declared.lock.Mode.{Mode}
-use Rattle.rc_spec.specs.declared.lock.Mode.TheVariants.{Exclusive}
-use Rattle.rc_spec.specs.declared.spec.Spec.{Spec}
-use Rattle.rc_spec.specs.Fragments.{EdgeRow}
-use Rattle.rc_spec.specs.Stripes.{stripe_total}
-use Rattle.rc_fragment.specs.declared.held.Held.{Held}
-use Rattle.rc_fragment.specs.declared.shape.EdgeShape.{EdgeShape}
-use Rattle.rc_fragment.specs.Fragment.{HasColumns, HasNoRowOf, edge_row, edge_table}
-use Rattle.rc_fragment.specs.FragmentRows.{FragmentRows, with_promise}
-use Rattle.rc_fragment.specs.Holder.{AreOfOneRelation, CanLower, CanRaise, CanRaiseNew, HasRefused, HasRisen, HasRoomFor, HeldStripe, IsAbove as IsAboveHeld, IsHeld, IsHeldExclusive, IsLent, IsPartlyAddedAt, LentStripe, held_of, with_changes, with_changes_at, with_room, with_room_at}
-use Rattle.rc_fragment.specs.Tuples.{ArePartlyAdded, CanAddTuple, HasTuple, IsFirstKept, changed_by, changes_of_class}
-use Rattle.rc_core.specs.declared.state.Hold.{Hold}
-use Rattle.rc_core.specs.ListLaws.{in_stripes, stripes_have, stripes_in_have}
-use Rattle.rc_core.specs.Passes.{IsAbove}
-use Rattle.rc_core.specs.State.{hold, stripes_in, writes_of}
-use Rattle.rc_row.specs.HeldRows.{HeldRows}
-use Rattle.rc_row.specs.Passes.{CanAddNewTo, CanAddTo, CanSubFrom, IsPartlyAddedOn, IsPassOf, OfHeld, PassSeen, RowSeen, core_of, holds_now, holds_taken, spec_of, stripes_of, with_fragment, with_held, with_standing}
-use Rattle.rc_row.specs.Standings.{HaveOneRelation, turned_away}
-use Rattle.rc_row.specs.StandingsLaws.{refusals_first}
+use Rattle.rc_store.specs.Imports.{satisfies_none, In, in_contains, in_map, map_in, Pairs, Found, Mode, Exclusive, Spec, EdgeRow, stripe_total, Held, EdgeShape, HasColumns, HasNoRowOf, edge_row, edge_table, FragmentRows, with_promise, AreOfOneRelation, CanLower, CanRaise, CanRaiseNew, HasRefused, HasRisen, HasRoomFor, HeldStripe, IsHeld, IsHeldExclusive, IsLent, IsPartlyAddedAt, LentStripe, held_of, with_changes, with_changes_at, with_room, with_room_at, ArePartlyAdded, CanAddTuple, HasTuple, IsFirstKept, changed_by, changes_of_class, Hold, in_stripes, stripes_have, stripes_in_have, IsAbove, hold, stripes_in, writes_of, HeldRows, CanAddNewTo, CanAddTo, CanSubFrom, IsPartlyAddedOn, IsPassOf, OfHeld, PassSeen, RowSeen, core_of, holds_now, holds_taken, spec_of, with_fragment, with_held, with_standing, HaveOneRelation, turned_away, refusals_first, all_now, all_taken, hold_now, hold_taken}
+use Rattle.rc_fragment.specs.Holder.{IsAbove as IsAboveHeld}
+use Rattle.rc_row.specs.Passes.{stripes_of}
 use Rattle.rc_store.specs.declared.lender.Refused.{Refused}
-use Rattle.rc_multi.specs.HeldStripes.{all_now, all_taken, hold_now, hold_taken}
 use Rattle.rc_store.specs.Lending.{IsLentBy, IsLentSo, IsOnTheWay, IsToldOf, Lent, count_told, held_stripe, held_stripes, lending, lent_stripe, lent_stripes}
 
 -- ---- what is held

@@ -33,3 +33,4 @@ pub mod OpenGroupLaws
 pub mod ReleaseLaws
 pub mod Resumed
 pub mod ResumedLaws
+pub mod Imports

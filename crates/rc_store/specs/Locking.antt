@@ -1,8 +1,6 @@
 -- The takes of a group's locks, one after another, before the first of its plans. (PLDI 2012, two-phase locks.)
 use Rattle.std.specs.Prelude.{◌≡◌, Bool, List}
-use Rattle.rc_spec.specs.Locks.{StripeLock}
-use Rattle.rc_machine.specs.Machine.{locks_of}
-use Rattle.rc_row.specs.Passes.{AreAtRest, PassSeen, RowSeen}
+use Rattle.rc_store.specs.Imports.{StripeLock, locks_of, AreAtRest, PassSeen, RowSeen}
 use Rattle.rc_store.specs.Lending.{IsOnTheWay, IsUnrefused, held_stripes}
 
 -- the pass has taken these locks, and changed nothing

@@ -1,28 +1,12 @@
 -- What takes in turn make of a pass: a group's locks, before the first of its plans.
 use Rattle.std.specs.Prelude.{◌≡◌, ℕ, zero, suc, ◌<◌, Bool, false, List, [], ◌∷◌, ◌++◌, length, take, get_or, None, Option, Some}
-use Rattle.std.specs.Ordering.{nat_cmp}
+use Rattle.rc_store.specs.Imports.{nat_cmp, Less, In, IsRising, get_or_in, map_in, Found, Mode, StripeLock, stripes_of, PassState, IsAbove, took, hold, stripes_in, locks_of, Standing, HeldRows, HasWaited, PassSeen, RowSeen, core_of, holds_taken, spec_of, waited_so, with_standing, HaveOneRelation, KeepsOut, KeepsRefusals, turned_away, refusals_first, refusals_more, refusals_on}
 use Rattle.std.proofs.lemmas.Cmp.{ranked}
-use Rattle.std.specs.declared.cmp.Ordering.TheVariants.{Less}
 use Rattle.std.proofs.Common.{refl, sym, ap, subst, ◌∙◌, inl, inr, arith}
-use Rattle.rc_tuple.specs.RisingSet.{In, IsRising}
-use Rattle.rc_tuple.specs.RisingSetLaws.{get_or_in, map_in}
-use Rattle.rc_spec.specs.declared.lock.Found.{Found}
-use Rattle.rc_spec.specs.declared.lock.Mode.{Mode}
-use Rattle.rc_spec.specs.Locks.{StripeLock}
-use Rattle.rc_plan.specs.StripeLocks.{stripes_of}
-use Rattle.rc_core.specs.declared.state.PassState.{PassState}
-use Rattle.rc_core.specs.Passes.{IsAbove, took}
-use Rattle.rc_core.specs.State.{hold, stripes_in}
-use Rattle.rc_machine.specs.Machine.{locks_of}
-use Rattle.rc_row.specs.declared.law.Standing.{Standing}
-use Rattle.rc_row.specs.HeldRows.{HeldRows}
-use Rattle.rc_row.specs.Passes.{HasWaited, PassSeen, RowSeen, core_of, holds_taken, spec_of, waited_so, with_standing}
-use Rattle.rc_row.specs.Standings.{HaveOneRelation, KeepsOut, KeepsRefusals, turned_away}
-use Rattle.rc_row.specs.StandingsLaws.{refusals_first, refusals_more, refusals_on}
 use Rattle.rc_store.specs.Busy.{IsLockBusy}
 use Rattle.rc_store.specs.Lending.{IsOnTheWay, held_stripes}
 use Rattle.rc_store.specs.Locking.{HasTakenLocks}
-use Rattle.rc_store.specs.Taking.{HasGivenUp, HasTakenStripe}
+use Rattle.rc_store.specs.Taking.{HasTakenStripe}
 
 -- ---- a pass that waited, or was refused, or gave up
 

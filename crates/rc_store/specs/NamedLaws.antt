@@ -1,17 +1,6 @@
 -- The stripes that evaluation of an operation's own plan names are those that the plan locks. (PLDI 2012, well-locked
 -- query plans.)
-use Rattle.std.specs.Prelude.{List}
-use Rattle.rc_tuple.specs.RisingSet.{In}
-use Rattle.rc_spec.specs.declared.call.Call.{Call}
-use Rattle.rc_spec.specs.Calls.{Fits}
-use Rattle.rc_spec.specs.Fragments.{EdgeRow}
-use Rattle.rc_plan.specs.Compiled.{IsCompiled, SpecWithPlans, plan_at}
-use Rattle.rc_plan.specs.CompiledLaws.{own_plan_accepted}
-use Rattle.rc_plan.specs.Evaluation.{eval}
-use Rattle.rc_plan.specs.NamedStripes.{IsNamedBy}
-use Rattle.rc_plan.specs.NamedStripesLaws.{named_law}
-use Rattle.rc_spec.specs.Locks.{StripeLock}
-use Rattle.rc_plan.specs.Turns.{HasAcceptedPlan, with_plan}
+use Rattle.rc_store.specs.Imports.{List, In, Call, Fits, EdgeRow, IsCompiled, SpecWithPlans, plan_at, own_plan_accepted, eval, IsNamedBy, named_law, StripeLock, HasAcceptedPlan, with_plan}
 
 -- Over an accepted specification with its plans: each stripe that evaluation of a call's own plan names, on any rows,
 -- is of a class that the plan locks, in that Lock's mode. It is the arguments' stripe where the Lock takes those of the

@@ -1,10 +1,6 @@
 -- Whose a pass is, is one fact.
-use Rattle.std.specs.Prelude.{Option, Some, None}
+use Rattle.rc_store.specs.Imports.{Option, Some, None, PartEntries, Keeping, Counts, Entries, IsPassOf, KeepsAs, PassSeen, RowSeen}
 use Rattle.std.proofs.Props.{props}
-use Rattle.rc_journal.specs.PartEntries.{PartEntries}
-use Rattle.rc_row.specs.declared.keeping.Keeping.{Keeping}
-use Rattle.rc_row.specs.declared.keeping.Keeping.TheVariants.{Counts, Entries}
-use Rattle.rc_row.specs.Passes.{IsPassOf, KeepsAs, PassSeen, RowSeen}
 
 keeps_once : (keeping : Keeping) (kept : Option PartEntries) → IsProp (KeepsAs keeping kept)
 keeps_once Entries None = hlevel props

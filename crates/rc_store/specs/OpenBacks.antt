@@ -1,8 +1,6 @@
 -- Why a call of an open group was not made.
 use Rattle.std.specs.Prelude.{◌≡◌, ◌<◌, length}
-use Rattle.rc_spec.specs.declared.call.Call.{Call}
-use Rattle.rc_multi.specs.Group.{Covers}
-use Rattle.rc_row.specs.Passes.{compiled_of}
+use Rattle.rc_store.specs.Imports.{Call, Covers, compiled_of}
 use Rattle.rc_store.specs.declared.open_group.OpenBack.{OpenBack}
 use Rattle.rc_store.specs.declared.open_group.OpenBack.TheVariants.{Full, Memory, Uncovered}
 use Rattle.rc_store.specs.OpenGroups.{OpenGroupSeen}

@@ -1,48 +1,11 @@
 -- An open group goes on from call to call, and what it keeps of what it holds may be committed.
 use Rattle.std.specs.Prelude.{◌≡◌, ℕ, zero, suc, ◌+◌, ◌<◌, ◌≤◌, ◌^◌, ◌⊎◌, List, [], ◌∷◌, ◌++◌, Option, Some, length, true, false, Bool, ◌==◌, IsSome}
-use Rattle.std.specs.List.{slice_get}
-use Rattle.std.specs.Ordering.{nat_cmp}
+use Rattle.rc_store.specs.Imports.{slice_get, nat_cmp, In, IsRising, in_append, in_contains, in_map, map_in, Pairs, Call, Reply, Fits, StripeLock, HeldStripe, IsAtRest, IsCompiled, SpecWithPlans, plan_at, eval, stripes_of, in_stripes_of, stripes_of_in, AllAreHeld, Step, StepsFit, after_steps, with_replies, with_replies-parts, Hold, PassState, HoldsNoMore, IsOfClassLocked, MayCommit, calls_with_plans, committed, next_of, rows_held, AreAsTaken, locks_of, stripes_held, group_committed, group_may_commit, one_held, AreNowOf, AreOfRelationFor, Covers, HasRunIn, HasRunTaking, HaveServed, Suffice, with_part, with_step, locks_after, now_of_relation, served_more, served_none, HasOperation, have_operations, stripes_after, taken_after, all_now, all_taken, groups_keep_what_they_use, one_call_keeps_what_it_took, AreLeftAtRest, IsUsedBy, KeepsTaken, KeepsUsed, decide_used, HeldRows, AreAtRest, HasSpare, IsMoreRoom, IsPassOf, PassSeen, RowSeen, compiled_of, core_of, holds_now, holds_taken, idle, spec_of, HaveOneRelation, refusals_on, PartEntries}
 use Rattle.std.proofs.Common.{refl, sym, ap, subst, ◌∙◌, inl, inr, arith}
 use Rattle.std.proofs.lemmas.Bool.{eq-eqb, eqb-true, false≢true}
 use Rattle.std.proofs.lemmas.List.{length-append, length-map, map-append}
 use Rattle.std.proofs.lemmas.List.Elements.{All-contains}
-use Rattle.rc_tuple.specs.RisingSet.{In, IsRising}
-use Rattle.rc_tuple.specs.RisingSetLaws.{in_append, in_contains, in_map, map_in}
-use Rattle.rc_tuple.specs.Tuple.{Pairs}
-use Rattle.rc_spec.specs.declared.call.Call.{Call}
-use Rattle.rc_spec.specs.declared.call.Reply.{Reply}
-use Rattle.rc_spec.specs.Calls.{Fits}
-use Rattle.rc_spec.specs.Locks.{StripeLock}
-use Rattle.rc_fragment.specs.Holder.{HeldStripe}
-use Rattle.rc_fragment.specs.Keep.{IsAtRest}
-use Rattle.rc_plan.specs.Compiled.{IsCompiled, SpecWithPlans, plan_at}
-use Rattle.rc_plan.specs.Evaluation.{eval}
-use Rattle.rc_plan.specs.StripeLocks.{stripes_of}
-use Rattle.rc_plan.specs.StripeLocksLaws.{in_stripes_of, stripes_of_in}
-use Rattle.rc_plan.specs.Turns.{AllAreHeld}
-use Rattle.rc_rel.specs.declared.entry.Step.{Step}
-use Rattle.rc_rel.specs.History.{StepsFit, after_steps, with_replies}
-use Rattle.rc_rel.specs.HistoryLaws.{with_replies-parts}
-use Rattle.rc_core.specs.declared.state.Hold.{Hold}
-use Rattle.rc_core.specs.declared.state.PassState.{PassState}
-use Rattle.rc_core.specs.Passes.{HoldsNoMore, IsOfClassLocked, MayCommit, calls_with_plans, committed, next_of}
-use Rattle.rc_core.specs.State.{locks_of as core_locks, rows_held}
-use Rattle.rc_machine.specs.Machine.{AreAsTaken, locks_of, stripes_held}
-use Rattle.rc_multi.specs.CommitLaws.{group_committed, group_may_commit, one_held}
-use Rattle.rc_multi.specs.Group.{AreNowOf, AreOfRelationFor, Covers, HasRunIn, HasRunTaking, HaveServed, Suffice, with_part, with_step}
-use Rattle.rc_multi.specs.GroupLaws.{locks_after, now_of_relation, served_more, served_none}
-use Rattle.rc_multi.specs.GroupLocks.{HasOperation}
-use Rattle.rc_multi.specs.GroupLocksLaws.{have_operations}
-use Rattle.rc_multi.specs.GroupRunLaws.{stripes_after, taken_after}
-use Rattle.rc_multi.specs.HeldStripes.{all_now, all_taken}
-use Rattle.rc_multi.specs.KeptLaws.{groups_keep_what_they_use, one_call_keeps_what_it_took}
-use Rattle.rc_multi.specs.Laws.{AreLeftAtRest, IsUsedBy, KeepsTaken, KeepsUsed}
-use Rattle.rc_multi.specs.UseLaws.{decide_used}
-use Rattle.rc_row.specs.HeldRows.{HeldRows}
-use Rattle.rc_row.specs.Passes.{AreAtRest, HasSpare, IsMoreRoom, IsPassOf, PassSeen, RowSeen, compiled_of, core_of, holds_now, holds_taken, idle, spec_of}
-use Rattle.rc_row.specs.Standings.{HaveOneRelation}
-use Rattle.rc_row.specs.StandingsLaws.{refusals_on}
-use Rattle.rc_journal.specs.PartEntries.{PartEntries}
+use Rattle.rc_core.specs.State.{locks_of as core_locks}
 use Rattle.rc_store.specs.declared.receipt.GroupReceipt.{GroupReceipt}
 use Rattle.rc_store.specs.declared.running_group.PreparedGroup.{PreparedGroup}
 use Rattle.rc_store.specs.declared.running_group.PreparedGroup.TheVariants as prepared

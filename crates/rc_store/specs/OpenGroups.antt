@@ -1,27 +1,8 @@
 -- Open groups: stripes are declared and taken up front, calls are made one after another over what is held, and are committed as
 -- one entry. (PLDI 2012, serializable transactions by two-phase locks.)
 use Rattle.std.specs.Prelude.{◌≡◌, ℕ, ◌<◌, ◌≤◌, List, [], ◌∷◌, length, All}
-use Rattle.std.specs.Ordering.{nat_cmp}
-use Rattle.rc_tuple.specs.RisingSet.{In, IsRising}
-use Rattle.rc_spec.specs.declared.call.Call.{Call}
-use Rattle.rc_spec.specs.declared.call.Reply.{Reply}
-use Rattle.rc_spec.specs.Locks.{StripeLock}
-use Rattle.rc_core.specs.declared.state.PassState.{PassState}
-use Rattle.rc_core.specs.State.{locks_of as core_locks, rows_held}
-use Rattle.rc_fragment.specs.Holder.{HeldStripe}
-use Rattle.rc_plan.specs.Compiled.{SpecWithPlans, plan_at}
-use Rattle.rc_plan.specs.Evaluation.{eval}
-use Rattle.rc_plan.specs.StripeLocks.{stripes_of}
-use Rattle.rc_plan.specs.Turns.{with_plans}
-use Rattle.rc_rel.specs.declared.entry.Step.{Step}
-use Rattle.rc_rel.specs.History.{StepsFit}
-use Rattle.rc_machine.specs.Machine.{AreAsTaken, locks_of, stripes_held}
-use Rattle.rc_multi.specs.Group.{HasRunTaking, HaveServed, Suffice, with_step}
-use Rattle.rc_multi.specs.GroupLocks.{HasOperation, group_locks}
-use Rattle.rc_multi.specs.Laws.{IsUsedBy}
-use Rattle.rc_row.specs.HeldRows.{HeldRows}
-use Rattle.rc_row.specs.Passes.{HasSpare, IsPassOf, PassSeen, RowSeen, compiled_of, core_of, holds_taken, spec_of}
-use Rattle.rc_row.specs.Standings.{HaveOneRelation, with_core}
+use Rattle.rc_store.specs.Imports.{nat_cmp, In, IsRising, Call, Reply, StripeLock, PassState, rows_held, HeldStripe, SpecWithPlans, plan_at, eval, stripes_of, with_plans, Step, StepsFit, AreAsTaken, locks_of, stripes_held, HasRunTaking, HaveServed, Suffice, with_step, HasOperation, group_locks, IsUsedBy, HeldRows, HasSpare, IsPassOf, PassSeen, RowSeen, compiled_of, core_of, holds_taken, spec_of, HaveOneRelation, with_core}
+use Rattle.rc_core.specs.State.{locks_of as core_locks}
 use Rattle.rc_store.specs.declared.receipt.BeginBack.{BeginBack}
 use Rattle.rc_store.specs.declared.receipt.GroupReceipt.{GroupReceipt}
 use Rattle.rc_store.specs.declared.receipt.TryFault.{TryFault}

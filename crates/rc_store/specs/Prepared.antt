@@ -1,12 +1,6 @@
 -- Calls that wait for their commit as one entry.
 use Rattle.std.specs.Prelude.{◌≡◌, List, length}
-use Rattle.rc_spec.specs.declared.call.Call.{Call}
-use Rattle.rc_spec.specs.declared.call.Reply.{Reply}
-use Rattle.rc_rel.specs.declared.entry.Step.{Step}
-use Rattle.rc_rel.specs.History.{with_replies}
-use Rattle.rc_core.specs.Passes.{MayCommit, committed, next_of}
-use Rattle.rc_row.specs.Passes.{HasSpare, IsMoreRoom, PassSeen, RowSeen, compiled_of, core_of, holds_now, holds_taken, spec_of}
-use Rattle.rc_row.specs.Standings.{HaveOneRelation, KeepsRefusals}
+use Rattle.rc_store.specs.Imports.{Call, Reply, Step, with_replies, MayCommit, committed, next_of, HasSpare, IsMoreRoom, PassSeen, RowSeen, compiled_of, core_of, holds_now, holds_taken, spec_of, HaveOneRelation, KeepsRefusals}
 use Rattle.rc_store.specs.Store.{HoldsExactly}
 
 -- The pass holds stripes with the rows of one relation; the core allows the commit of these steps as its next entry, and what

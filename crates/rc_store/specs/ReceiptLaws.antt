@@ -1,33 +1,9 @@
 -- What receipts mean, from what they say.
 use Rattle.std.specs.Prelude.{◌≡◌, ℕ, suc, List, [], ◌∷◌, ◌++◌, Some, length, take}
-use Rattle.std.specs.List.{slice_get}
+use Rattle.rc_store.specs.Imports.{slice_get, In, gather, append_in_left, append_in_right, in_contains, IsRelation, Satisfies, Pairs, Call, Reply, Spec, all_columns, EdgeRow, rows_on, plain, Statement, IsCompiled, plan_at, compiled_law, eval, touched, Serves, AreHeld, stripe_lock_cmp, stripes_of, Entry, Step, AreLegalFrom, IsLegal, IsPlain, IsPrefix, after_steps, replay, replay_in_states, states_are_relations, states_satisfy, legal_last, rows_held_are, next_of, rows_held, PassSeen, compiled_of, core_of, next_entry, spec_of}
 use Rattle.std.proofs.Common.{refl, sym, ap, subst, ◌∙◌, inl}
 use Rattle.std.proofs.lemmas.List.Elements.{All-contains}
-use Rattle.rc_tuple.specs.RisingSet.{In, gather}
-use Rattle.rc_tuple.specs.RisingSetLaws.{append_in_left, append_in_right, in_contains}
-use Rattle.rc_tuple.specs.Relation.{IsRelation, Satisfies}
-use Rattle.rc_tuple.specs.Tuple.{Pairs}
-use Rattle.rc_spec.specs.declared.call.Call.{Call}
-use Rattle.rc_spec.specs.declared.call.Reply.{Reply}
-use Rattle.rc_spec.specs.declared.spec.Spec.{Spec}
-use Rattle.rc_spec.specs.Calls.{all_columns}
-use Rattle.rc_spec.specs.Fragments.{EdgeRow, rows_on}
-use Rattle.rc_spec.specs.Plain.{plain}
-use Rattle.rc_plan.specs.declared.statement.Statement.{Statement}
-use Rattle.rc_plan.specs.Compiled.{IsCompiled, plan_at}
-use Rattle.rc_plan.specs.CompiledLaws.{compiled_law}
-use Rattle.rc_plan.specs.Evaluation.{eval, touched}
-use Rattle.rc_plan.specs.Laws.{Serves}
-use Rattle.rc_plan.specs.StripeLocks.{AreHeld, stripe_lock_cmp, stripes_of}
-use Rattle.rc_rel.specs.declared.entry.Entry.{Entry}
-use Rattle.rc_rel.specs.declared.entry.Step.{Step}
-use Rattle.rc_rel.specs.History.{AreLegalFrom, IsLegal, IsPlain, IsPrefix, after_steps, replay}
-use Rattle.rc_rel.specs.HistoryLaws.{replay_in_states, states_are_relations, states_satisfy}
-use Rattle.rc_rel.specs.PlaceLaws.{legal_last}
-use Rattle.rc_core.specs.CommitLaws.{rows_held_are}
-use Rattle.rc_core.specs.Passes.{next_of}
-use Rattle.rc_core.specs.State.{locks_of, rows_held}
-use Rattle.rc_row.specs.Passes.{PassSeen, compiled_of, core_of, next_entry, spec_of}
+use Rattle.rc_core.specs.State.{locks_of}
 use Rattle.rc_store.specs.declared.receipt.Receipt.{Receipt}
 use Rattle.rc_store.specs.Closed.{ClosedSeen, HasClosed}
 use Rattle.rc_store.specs.Receipts.{ReceiptsAreOfTheClosed, ReceiptsArePlain, ReceiptsGoOn, TellingGoesOn, history_with}

@@ -1,19 +1,7 @@
 -- What receipts mean: one history. Each law is named by the contract of a function. (PLDI 2012, serializable transactions.)
 use Rattle.std.specs.Prelude.{◌≡◌, ℕ, suc, List, [], ◌∷◌, ◌++◌, Some, take}
-use Rattle.std.specs.List.{slice_get}
-use Rattle.rc_tuple.specs.RisingSet.{In, gather}
-use Rattle.rc_spec.specs.declared.call.Call.{Call}
-use Rattle.rc_spec.specs.declared.call.Reply.{Reply}
-use Rattle.rc_spec.specs.Plain.{plain}
-use Rattle.rc_plan.specs.Compiled.{IsCompiled, plan_at}
-use Rattle.rc_plan.specs.Evaluation.{touched}
-use Rattle.rc_plan.specs.StripeLocks.{stripe_lock_cmp}
-use Rattle.rc_rel.specs.declared.entry.Entry.{Entry}
-use Rattle.rc_rel.specs.declared.entry.Step.{Step}
-use Rattle.rc_rel.specs.History.{AreLegalFrom, IsPlain, IsPrefix, after_steps, replay}
-use Rattle.rc_core.specs.Passes.{next_of}
+use Rattle.rc_store.specs.Imports.{slice_get, In, gather, Call, Reply, plain, IsCompiled, plan_at, touched, stripe_lock_cmp, Entry, Step, AreLegalFrom, IsPlain, IsPrefix, after_steps, replay, next_of, HasLookedAt, NoteSeen, PassSeen, compiled_of, core_of, next_entry, spec_of, with_note}
 use Rattle.rc_core.specs.State.{locks_of}
-use Rattle.rc_row.specs.Passes.{HasLookedAt, NoteSeen, PassSeen, compiled_of, core_of, next_entry, spec_of, with_note}
 use Rattle.rc_store.specs.declared.receipt.Receipt.{Receipt}
 use Rattle.rc_store.specs.Closed.{ClosedSeen, HasClosed}
 use Rattle.rc_store.specs.Store.{HasMade, HasMadeEntry, IsAsBefore, StoreSeen, one_step}

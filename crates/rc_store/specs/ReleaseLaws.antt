@@ -1,27 +1,10 @@
 -- What is kept of what a pass holds, and that giving the rest back stripe by stripe leads there.
 use Rattle.std.specs.Prelude.{◌≡◌, ℕ, zero, suc, ◌+◌, ◌<◌, ◌≤◌, ◌==◌, ◌⊎◌, Bool, true, false, not, cond, List, [], ◌∷◌, All, Some, get_or, length, take}
-use Rattle.std.specs.Ordering.{nat_cmp}
-use Rattle.std.specs.declared.cmp.Ordering.TheVariants.{Less}
+use Rattle.rc_store.specs.Imports.{nat_cmp, Less, slice_get, In, IsRising, in_append, nat_order, not_below_itself, Call, StripeLock, FragmentRows, SpecWithPlans, plan_at, IsOfClassLocked, other_holds, Hold, hold, locks_of, stripes_held, IsUsedBy, HeldRows, OfHeld, PassSeen, core_of, held_without, holds_taken, without_stripe, IsHeldSo, with_core}
 use Rattle.std.proofs.Common.{refl, sym, ap, subst, ◌∙◌, inl, inr, arith}
 use Rattle.std.proofs.lemmas.Bool.{eq-eqb, ne_eqb}
 use Rattle.std.proofs.lemmas.List.{take_more}
 use Rattle.std.proofs.lemmas.List.Elements.{All-cons, All-nil}
-use Rattle.std.specs.List.{slice_get}
-use Rattle.rc_tuple.specs.RisingSet.{In, IsRising}
-use Rattle.rc_tuple.specs.RisingSetLaws.{in_append, nat_order, not_below_itself}
-use Rattle.rc_spec.specs.declared.call.Call.{Call}
-use Rattle.rc_spec.specs.Locks.{StripeLock}
-use Rattle.rc_fragment.specs.FragmentRows.{FragmentRows}
-use Rattle.rc_plan.specs.Compiled.{SpecWithPlans, plan_at}
-use Rattle.rc_core.specs.Passes.{IsOfClassLocked, other_holds}
-use Rattle.rc_core.specs.declared.state.Hold.{Hold}
-use Rattle.rc_core.specs.State.{hold}
-use Rattle.rc_machine.specs.Machine.{locks_of, stripes_held}
-use Rattle.rc_multi.specs.Laws.{IsUsedBy}
-use Rattle.rc_row.specs.HeldRows.{HeldRows}
-use Rattle.rc_row.specs.Passes.{OfHeld, PassSeen, core_of, held_without, holds_taken, without_stripe}
-use Rattle.rc_row.specs.Released.{IsHeldSo}
-use Rattle.rc_row.specs.Standings.{with_core}
 use Rattle.rc_store.specs.Lending.{held_stripes}
 use Rattle.rc_store.specs.OpenGroups.{AreUnchangedBut, KeepsNeeded, holding}
 

@@ -1,18 +1,6 @@
 -- A store that goes on from a closed one. (PLDI 2012, serializable transactions: its calls go on with the one legal history.)
 use Rattle.std.specs.Prelude.{◌≡◌, ℕ, ◌<◌, ◌≤◌, All, List, [], Option, Some, None, length, map}
-use Rattle.std.specs.List.{range_with_len, slice_get}
-use Rattle.std.specs.Option.{unwrap_or}
-use Rattle.rc_rel.specs.declared.entry.Entry.{Entry}
-use Rattle.rc_rel.specs.declared.entry.Step.{Step}
-use Rattle.rc_rel.specs.History.{IsPrefix, own_placed}
-use Rattle.rc_tuple.specs.RisingSet.{In}
-use Rattle.rc_journal.specs.PartEntries.{PartEntries}
-use Rattle.rc_row.specs.declared.close.EndedPass.{EndedPass}
-use Rattle.rc_row.specs.declared.keeping.Keeping.{Keeping}
-use Rattle.rc_row.specs.declared.keeping.Keeping.TheVariants.{Counts, Entries}
-use Rattle.rc_row.specs.Law.{history_by}
-use Rattle.rc_row.specs.PassInside.{AreOwnKept}
-use Rattle.rc_row.specs.Passes.{AreIdlePasses, KeepsAs, PassSeen, RowSeen, resumed_pass}
+use Rattle.rc_store.specs.Imports.{range_with_len, slice_get, unwrap_or, Entry, Step, IsPrefix, own_placed, In, PartEntries, EndedPass, Keeping, Counts, Entries, history_by, AreOwnKept, AreIdlePasses, KeepsAs, PassSeen, RowSeen, resumed_pass}
 use Rattle.rc_store.specs.Closed.{ClosedSeen, HasClosed}
 use Rattle.rc_store.specs.Headline.{IsReceipt, history_of}
 use Rattle.rc_store.specs.Receipts.{KnowsAll}

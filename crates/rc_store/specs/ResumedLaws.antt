@@ -1,39 +1,11 @@
 -- Laws of stores that go on.
 use Rattle.std.proofs.Common.{◌≡◌, ◌⊎◌, ℕ, zero, suc, ◌+◌, ◌<◌, ◌≤◌, List, [], ◌∷◌, ◌++◌, Option, Some, None, length, map, get_or, inl, inr, refl, sym, ap, subst, ◌∙◌, arith}
-use Rattle.std.specs.Prelude.{All, IfSome}
-use Rattle.std.specs.List.{AllByRecursion, range_with_len, slice_get}
-use Rattle.std.specs.Option.{option_map, unwrap_or}
+use Rattle.rc_store.specs.Imports.{All, IfSome, AllByRecursion, range_with_len, slice_get, option_map, unwrap_or, In, in_contains, in_map, fragment_of, stripe_total, Spec, edge_table, KeptRows, Entry, Placed, Step, Extends, histories_stay, IsPrefix, own, own_placed, replay, none_own, own_length, MayGoOn, goes_on_with_more, goes_on_with_passes, made_at, made_there, PartEntries, HaveOneTable, Stripe, kept_stripe, EndedPass, Keeping, Counts, Entries, IsEndedOf, IsLeftOf, resumed_from, history_by, kept_of, AreOwnKept, KeepsAs, PassSeen, RowSeen, core_of, resumed_pass, told_of}
 use Rattle.std.proofs.lemmas.Bool.{cases_lt}
 use Rattle.std.proofs.lemmas.List.Elements.{All-contains}
 use Rattle.std.proofs.lemmas.List.{length-map}
 use Rattle.std.proofs.lemmas.List.FromFn.{length-map-range_with_len, map-range_with_len_more}
 use Rattle.std.proofs.lemmas.Option.{same_Some, slice_get-get_or, slice_get-map, slice_get_past}
-use Rattle.rc_tuple.specs.RisingSet.{In}
-use Rattle.rc_tuple.specs.RisingSetLaws.{in_contains, in_map}
-use Rattle.rc_spec.specs.Fragments.{fragment_of}
-use Rattle.rc_spec.specs.Stripes.{stripe_total}
-use Rattle.rc_spec.specs.declared.spec.Spec.{Spec}
-use Rattle.rc_fragment.specs.Fragment.{edge_table}
-use Rattle.rc_fragment.specs.Keep.{KeptRows}
-use Rattle.rc_rel.specs.declared.entry.Entry.{Entry}
-use Rattle.rc_rel.specs.declared.entry.Placed.{Placed}
-use Rattle.rc_rel.specs.declared.entry.Step.{Step}
-use Rattle.rc_rel.specs.Further.{Extends}
-use Rattle.rc_rel.specs.FurtherLaws.{histories_stay}
-use Rattle.rc_rel.specs.History.{IsPrefix, own, own_placed, replay}
-use Rattle.rc_rel.specs.OwnLaws.{none_own, own_length}
-use Rattle.rc_core.specs.Resumed.{MayGoOn}
-use Rattle.rc_core.specs.ResumedLaws.{goes_on_with_more, goes_on_with_passes, made_at, made_there}
-use Rattle.rc_journal.specs.PartEntries.{PartEntries}
-use Rattle.rc_instance.specs.Instance.{HaveOneTable, Stripe, kept_stripe}
-use Rattle.rc_row.specs.declared.close.EndedPass.{EndedPass}
-use Rattle.rc_row.specs.declared.keeping.Keeping.{Keeping}
-use Rattle.rc_row.specs.declared.keeping.Keeping.TheVariants.{Counts, Entries}
-use Rattle.rc_row.specs.Ended.{IsEndedOf, IsLeftOf, resumed_from}
-use Rattle.rc_row.specs.Law.{history_by, kept_of}
-use Rattle.rc_row.specs.PassInside.{AreOwnKept}
-use Rattle.rc_row.specs.Passes.{KeepsAs, PassSeen, RowSeen, core_of, resumed_pass}
-use Rattle.rc_row.specs.Standings.{told_of}
 use Rattle.rc_store.specs.Closed.{AreKeptOf, ClosedSeen, HasOneHistory, left_by}
 use Rattle.rc_store.specs.Headline.{IsReceipt, history_of}
 use Rattle.rc_store.specs.ReceiptLaws.{begins_closed}
@@ -93,7 +65,6 @@ module _ (closed : ClosedSeen) (h : HasOneHistory closed) (passes : ℕ) (ended 
           (subst (λ (o : Option (List Entry)). IfSome o (λ history. AreKeptParts history passes ended)) is kept))
 
 module _ (closed : ClosedSeen) (h : HasOneHistory closed) (later : Spec) (extends : Extends closed.compiled.spec later) where
-
   same_rows : (p : ℕ) → kept_of closed.compiled.spec (fragment_of closed.compiled.spec (replay closed.compiled.spec h.history) p) ≡ kept_of later (fragment_of later (replay later h.history) p)
   same_rows p =
       let stays = histories_stay closed.compiled.spec later extends in

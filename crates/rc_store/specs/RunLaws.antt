@@ -1,18 +1,8 @@
 -- What a run of a plan over a lent row and pass leaves.
 use Rattle.std.specs.Prelude.{◌≡◌, ℕ, Bool, List, [], ◌∷◌, Option, None, Some, Result, Ok, Err, IfOk, IfErr, false}
 use Rattle.std.proofs.Common.{refl, sym, ap, subst, ◌∙◌}
-use Rattle.rc_spec.specs.declared.call.Call.{Call}
-use Rattle.rc_spec.specs.declared.call.Reply.{Reply}
-use Rattle.rc_spec.specs.declared.spec.Spec.{Spec}
-use Rattle.rc_spec.specs.Calls.{Fits}
-use Rattle.rc_fragment.specs.declared.held.Held.{Held}
-use Rattle.rc_fragment.specs.Holder.{HeldStripe, Holding}
-use Rattle.rc_plan.specs.Compiled.{IsCompiled, SpecWithPlans, plan_at}
-use Rattle.rc_machine.specs.declared.stop.Stop.{Stop}
+use Rattle.rc_store.specs.Imports.{Call, Reply, Spec, Fits, Held, HeldStripe, Holding, IsCompiled, SpecWithPlans, plan_at, Stop, HasAnswered, HasRefusedCall, HasReplied, CountsOnlyHeld, IsPassOf, PassSeen, RowSeen, compiled_of, core_of, holds_taken, spec_of}
 use Rattle.rc_machine.specs.declared.stop.Stop.TheVariants as stop
-use Rattle.rc_machine.specs.Machine.{HasAnswered, HasRefusedCall, HasReplied}
-use Rattle.rc_machine.specs.Stopped.{CountsOnlyHeld}
-use Rattle.rc_row.specs.Passes.{IsPassOf, PassSeen, RowSeen, compiled_of, core_of, holds_taken, spec_of}
 use Rattle.rc_store.specs.declared.lender.Refused.{Refused}
 use Rattle.rc_store.specs.Busy.{IsBusy}
 use Rattle.rc_store.specs.BusyLaws.{busy, none_waits, unrefused}

@@ -1,10 +1,7 @@
 -- A prepared call: it holds its stripes and has its reply, and waits to be committed or cancelled. (PLDI 2012,
 -- two-phase transactions.)
 use Rattle.std.specs.Prelude.{◌≡◌, ◌<◌, List, [], length, map, Result, Ok, Err}
-use Rattle.rc_spec.specs.declared.call.Call.{Call}
-use Rattle.rc_spec.specs.declared.call.Reply.{Reply}
-use Rattle.rc_rel.specs.declared.entry.Step.{Step}
-use Rattle.rc_row.specs.Passes.{IsPassOf, PassSeen, compiled_of, core_of}
+use Rattle.rc_store.specs.Imports.{Call, Reply, Step, IsPassOf, PassSeen, compiled_of, core_of}
 use Rattle.rc_store.specs.declared.receipt.TryFault.{TryFault}
 use Rattle.rc_store.specs.declared.receipt.BeginBack.{BeginBack}
 use Rattle.rc_store.specs.Busy.{HasCause}

@@ -1,15 +1,8 @@
 -- What a prepared group has: its replies, by number, and its commit.
 use Rattle.std.specs.Prelude.{◌≡◌, ℕ, zero, suc, ◌<◌, List, [], ◌∷◌, ◌++◌, Some, get_or, length}
-use Rattle.std.specs.List.{slice_get}
+use Rattle.rc_store.specs.Imports.{slice_get, Call, Reply, Step, with_replies, with_replies-parts, with_step, PassSeen, compiled_of, core_of}
 use Rattle.std.proofs.Common.{refl, sym, ap, subst, ◌∙◌, arith}
 use Rattle.std.proofs.lemmas.List.{length-map}
-use Rattle.rc_spec.specs.declared.call.Call.{Call}
-use Rattle.rc_spec.specs.declared.call.Reply.{Reply}
-use Rattle.rc_rel.specs.declared.entry.Step.{Step}
-use Rattle.rc_rel.specs.History.{with_replies}
-use Rattle.rc_rel.specs.HistoryLaws.{with_replies-parts}
-use Rattle.rc_multi.specs.Group.{with_step}
-use Rattle.rc_row.specs.Passes.{PassSeen, compiled_of, core_of}
 use Rattle.rc_store.specs.declared.receipt.GroupReceipt.{GroupReceipt}
 use Rattle.rc_store.specs.Prepared.{IsPrepared}
 use Rattle.rc_store.specs.Running.{AreHeldOn, calls_of, replies_of}

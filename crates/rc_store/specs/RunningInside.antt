@@ -1,9 +1,6 @@
 -- What a prepared call keeps.
 use Rattle.std.specs.Prelude.{◌≡◌, List, None, IsSome, length}
-use Rattle.rc_rel.specs.declared.entry.Step.{Step}
-use Rattle.rc_rel.specs.History.{with_replies}
-use Rattle.rc_core.specs.Passes.{next_of}
-use Rattle.rc_row.specs.Passes.{PassSeen, core_of, next_entry}
+use Rattle.rc_store.specs.Imports.{Step, with_replies, next_of, PassSeen, core_of, next_entry}
 use Rattle.rc_store.specs.declared.running.Prepared.{Prepared}
 use Rattle.rc_store.specs.declared.running.Prepared.TheVariants.{Entry, Counted}
 use Rattle.rc_store.specs.declared.running.Running.TheInside.{Inside}

@@ -1,13 +1,7 @@
 -- What the run of a call's plan leaves, and how a call may stop.
 use Rattle.std.specs.Prelude.{◌≡◌, ℕ, Bool, false, List, [], ◌∷◌, Result, IfOk, IfErr}
-use Rattle.rc_spec.specs.declared.call.Call.{Call}
-use Rattle.rc_spec.specs.declared.call.Reply.{Reply}
-use Rattle.rc_spec.specs.declared.lock.Found.{Found}
-use Rattle.rc_plan.specs.Compiled.{plan_at}
-use Rattle.rc_machine.specs.declared.stop.Stop.{Stop}
-use Rattle.rc_machine.specs.declared.stop.Stop.TheVariants.{Held, Memory}
-use Rattle.rc_machine.specs.Machine.{HasReplied}
-use Rattle.rc_row.specs.Passes.{IsPassOf, PassSeen, RowSeen, compiled_of, spec_of}
+use Rattle.rc_store.specs.Imports.{Call, Reply, Found, plan_at, Stop, Memory, HasReplied, IsPassOf, PassSeen, RowSeen, compiled_of, spec_of}
+use Rattle.rc_machine.specs.declared.stop.Stop.TheVariants.{Held}
 use Rattle.rc_store.specs.Busy.{AreBusy}
 use Rattle.rc_store.specs.Lending.{IsOnTheWay, IsUnrefused, held_stripes}
 

@@ -4,37 +4,10 @@ use Rattle.std.proofs.Common.{refl, sym, ap, subst, ◌∙◌, arith}
 use Rattle.std.proofs.lemmas.Bool.{false≢true}
 use Rattle.std.proofs.lemmas.List.{length-append}
 use Rattle.std.proofs.lemmas.List.Elements.{All-cons, All-map, All-nil}
-use Rattle.rc_spec.specs.declared.call.Call.{Call}
-use Rattle.rc_spec.specs.declared.lock.Found.{Found}
-use Rattle.rc_spec.specs.declared.call.Reply.{Reply}
-use Rattle.rc_spec.specs.Calls.{Fits}
-use Rattle.rc_fragment.specs.Holder.{AreOfOneRelation}
-use Rattle.rc_spec.specs.Locks.{StripeLock}
-use Rattle.rc_multi.specs.GroupLocks.{group_locks}
-use Rattle.rc_plan.specs.Compiled.{plan_at}
-use Rattle.rc_plan.specs.Turns.{with_plans}
-use Rattle.rc_machine.specs.declared.stop.Stop.{Stop}
-use Rattle.rc_machine.specs.declared.stop.Stop.TheVariants.{Held, Memory}
-use Rattle.rc_machine.specs.Machine.{HasReplied}
-use Rattle.rc_rel.specs.declared.entry.Entry.{Entry}
-use Rattle.rc_rel.specs.declared.entry.Placed.{Placed}
-use Rattle.rc_rel.specs.declared.entry.Step.{Step}
-use Rattle.rc_rel.specs.History.{IsPrefix, placed, with_replies}
-use Rattle.rc_core.specs.Good.{IsOfHistory}
-use Rattle.rc_core.specs.Passes.{MayCommit, committed, next_of}
-use Rattle.rc_fragment.specs.FragmentRows.{FragmentRows, rolled_back, settled}
-use Rattle.rc_fragment.specs.Keep.{IsAtRest}
-use Rattle.rc_core.specs.declared.state.PassState.{PassState}
-use Rattle.rc_journal.specs.PartEntries.{PartEntries}
-use Rattle.rc_row.specs.declared.keeping.Keeping.{Keeping}
-use Rattle.rc_row.specs.declared.keeping.Keeping.TheVariants.{Counts, Entries}
-use Rattle.rc_row.specs.declared.law.Standing.{Standing}
-use Rattle.rc_row.specs.HeldRows.{HeldRows}
-use Rattle.rc_row.specs.Passes.{AreAtRest, HasReserved, HasSpare, IsMoreRoom, IsPassOf, KeepsAs, PassSeen, RowSeen, all_with, compiled_of, core_of, holds_taken, idle, reverted, spec_of, with_entry, with_fragment}
-use Rattle.rc_row.specs.Standings.{HaveOneRelation, KeepsOut, KeepsRefusals}
+use Rattle.rc_store.specs.Imports.{Call, Found, Reply, Fits, AreOfOneRelation, StripeLock, group_locks, plan_at, with_plans, Stop, Memory, HasReplied, Entry, Placed, Step, IsPrefix, placed, with_replies, IsOfHistory, MayCommit, committed, next_of, FragmentRows, rolled_back, settled, IsAtRest, PassState, PartEntries, Keeping, Counts, Entries, Standing, HeldRows, AreAtRest, HasReserved, HasSpare, IsMoreRoom, IsPassOf, KeepsAs, PassSeen, RowSeen, all_with, compiled_of, core_of, holds_taken, idle, reverted, spec_of, with_entry, with_fragment, HaveOneRelation, KeepsOut, KeepsRefusals, all_taken}
+use Rattle.rc_machine.specs.declared.stop.Stop.TheVariants.{Held}
 use Rattle.rc_store.specs.Busy.{AreBusy, IsBusy, IsLockBusy}
 use Rattle.rc_store.specs.CommitLaws.{holds_what_is_named, may_commit, now_committed}
-use Rattle.rc_multi.specs.HeldStripes.{all_taken}
 use Rattle.rc_store.specs.Lending.{IsOnTheWay, IsUnrefused, held_stripes}
 use Rattle.rc_store.specs.LendingLaws.{all_now-held, all_taken-held, one_relation, still_of_row}
 use Rattle.rc_store.specs.Prepared.{HasGoneOn, IsPrepared, IsReady}

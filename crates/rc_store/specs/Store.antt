@@ -1,27 +1,8 @@
 -- What contracts see of a store, and what its calls make of a pass. (PLDI 2012, serializable transactions over striped
 -- locks.)
 use Rattle.std.specs.Prelude.{◌≡◌, ℕ, ◌*◌, ◌<◌, ◌≤◌, ◌^◌, List, [], ◌∷◌, ◌++◌, length, Option, Some, None}
-use Rattle.std.specs.List.{AllByRecursion}
-use Rattle.rc_tuple.specs.RisingSet.{gather}
-use Rattle.rc_spec.specs.declared.call.Call.{Call}
-use Rattle.rc_spec.specs.declared.call.Reply.{Reply}
-use Rattle.rc_spec.specs.Calls.{Fits}
-use Rattle.rc_plan.specs.Compiled.{SpecWithPlans, plan_at}
-use Rattle.rc_plan.specs.Evaluation.{eval}
-use Rattle.rc_plan.specs.StripeLocks.{stripe_lock_cmp}
-use Rattle.rc_rel.specs.declared.entry.Entry.{Entry}
-use Rattle.rc_rel.specs.declared.entry.Step.{Step}
-use Rattle.rc_rel.specs.History.{placed, with_replies}
-use Rattle.rc_journal.specs.PartEntries.{PartEntries}
-use Rattle.rc_core.specs.declared.state.PassState.{PassState}
-use Rattle.rc_core.specs.Good.{IsOfHistory}
-use Rattle.rc_core.specs.Passes.{MayCommit, calls_with_plans, committed, next_of}
-use Rattle.rc_core.specs.State.{locks_of, rows_held}
-use Rattle.rc_multi.specs.GroupLocks.{group_locks}
-use Rattle.rc_row.specs.declared.keeping.Keeping.{Keeping}
-use Rattle.rc_row.specs.declared.keeping.Keeping.TheVariants.{Counts, Entries}
-use Rattle.rc_row.specs.Passes.{IsMoreRoom, IsPassOf, PassSeen, RowSeen, compiled_of, core_of, idle, spec_of, with_commit, with_entry}
-use Rattle.rc_row.specs.Standings.{HaveOneRelation, IsAtHistory, KeepsRefusals, with_core}
+use Rattle.rc_store.specs.Imports.{AllByRecursion, gather, Call, Reply, Fits, SpecWithPlans, plan_at, eval, stripe_lock_cmp, Entry, Step, placed, with_replies, PartEntries, PassState, IsOfHistory, MayCommit, calls_with_plans, committed, next_of, rows_held, group_locks, Keeping, Counts, Entries, IsMoreRoom, IsPassOf, PassSeen, RowSeen, compiled_of, core_of, idle, spec_of, with_commit, with_entry, HaveOneRelation, IsAtHistory, KeepsRefusals, with_core}
+use Rattle.rc_core.specs.State.{locks_of}
 use Rattle.rc_store.specs.declared.receipt.GroupReceipt.{GroupReceipt}
 use Rattle.rc_store.specs.declared.receipt.Position.{Position}
 use Rattle.rc_store.specs.declared.receipt.Receipt.{Receipt}

@@ -1,9 +1,6 @@
 -- What a take makes of a pass, whether it waits or not.
 use Rattle.std.specs.Prelude.{◌≡◌, ℕ, Bool, false, List}
-use Rattle.rc_spec.specs.declared.lock.Mode.{Mode}
-use Rattle.rc_spec.specs.Fragments.{EdgeRow}
-use Rattle.rc_row.specs.Passes.{HasWaited, PassSeen, RowSeen, spec_of, with_standing, with_taken}
-use Rattle.rc_row.specs.Standings.{without_wish}
+use Rattle.rc_store.specs.Imports.{Mode, EdgeRow, HasWaited, PassSeen, RowSeen, spec_of, with_standing, with_taken, without_wish}
 
 -- The pass waited for the stripe in the mode, and where nothing waits it is as before.
 pub record HasWaitedIf (waits : Bool) (mode : Mode) (passes stripe : ℕ) (old new : PassSeen) : Type 0 where

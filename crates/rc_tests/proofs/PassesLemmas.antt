@@ -16,7 +16,6 @@ same_map f (x ∷ xs) (y ∷ ys) l h =
     λ j. first j ∷ rest j
 
 module _ (store : StoreSeen) (olds : List PassSeen) (idle : AreIdlePasses store.row olds) (few : AreFew store.limit olds) where
-
   -- and so are those that it has become, where each kept its number
   pub still_idle : (news : List PassSeen) → length news ≡ length olds
       → ((i : ℕ) (d : PassSeen) → i < length olds → IsFree store (get_or news i d) × ((core_of (get_or news i d)).number ≡ (core_of (get_or olds i d)).number))

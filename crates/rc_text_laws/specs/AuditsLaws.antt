@@ -1,47 +1,10 @@
 -- What `run` may write for an input is legal behind it, and so is its journal alone; and `audit` has one answer to an input.
 use Rattle.std.proofs.Common.{◌≡◌, ℕ, suc, ◌<◌, List, [], ◌∷◌, ◌++◌, length, map, Result, Ok, Err, refl, sym, ap, ◌∙◌, subst, inl, inr, arith}
-use Rattle.std.specs.Prelude.{codes}
-use Rattle.std.specs.List.{AllByRecursion, flat_map, range_with_len}
+use Rattle.rc_text_laws.specs.Imports.{codes, AllByRecursion, flat_map, range_with_len, in_range_bounds, In, ContentLine, IsPrintable, TextPlace, bytes_of_content, past_end_of, printed_lines, content-printed, IsAccepted, IsSealed, one_first_broken, refused_not_accepted, op_at, refusal_text, Refusal, Spec, plan_at, Statement, one_planned, planned_accepted, replay, Entry, Broken, Reading, spec_reading, HasThreads, WorkPart, part_reading, row_text, work_reading, count_line, final_lines, journal_lines, Runs, place_after, Nothing, Work, Audit, AuditJournal, Run, IsVerdict, bare_lines, good_lines, op_lines, plans_in_lines, run_lines, plan_lines_are_written, one_verdict, Form, Legal, Answers, AnswersAudit, AnswersPart, AnswersRun, AnswersWork, IsJudgement, IsReport, audit_for, plans_and_report, verdict_status, verdict_text, part_threads, ArePlanned, op_text, IsReadAs, Status, Done, Refused}
 use Rattle.std.proofs.lemmas.Grind.{flat_map-append}
 use Rattle.std.proofs.lemmas.List.{append_assoc}
-use Rattle.rc_tuple.specs.ColSetLaws.{in_range_bounds}
-use Rattle.rc_tuple.specs.RisingSet.{In}
-use Rattle.rc_text.specs.Lines.{ContentLine, IsPrintable, TextPlace, bytes_of_content, past_end_of, printed_lines}
-use Rattle.rc_text.specs.LinesLaws.{content-printed}
-use Rattle.rc_spec.specs.Acceptance.{IsAccepted, IsSealed}
-use Rattle.rc_spec.specs.AcceptanceLaws.{one_first_broken, refused_not_accepted}
-use Rattle.rc_spec.specs.Placement.{op_at}
-use Rattle.rc_spec.specs.RefusalText.{refusal_text}
-use Rattle.rc_spec.specs.declared.refusal.Refusal.{Refusal}
-use Rattle.rc_spec.specs.declared.spec.Spec.{Spec}
-use Rattle.rc_plan.specs.Compiled.{plan_at}
-use Rattle.rc_plan.specs.declared.statement.Statement.{Statement}
-use Rattle.rc_query.specs.PlannedLaws.{one_planned, planned_accepted}
-use Rattle.rc_rel.specs.History.{replay}
-use Rattle.rc_rel.specs.declared.entry.Entry.{Entry}
-use Rattle.rc_reader.specs.Grammar.{Broken, Reading, spec_reading}
-use Rattle.rc_work.specs.Fitting.{HasThreads}
-use Rattle.rc_work.specs.PartGrammar.{WorkPart, part_reading}
-use Rattle.rc_work.specs.Printed.{row_text}
-use Rattle.rc_work.specs.Ranking.{work_reading}
-use Rattle.rc_work.specs.Report.{count_line, final_lines, journal_lines, report}
-use Rattle.rc_work.specs.Runs.{Runs}
-use Rattle.rc_work.specs.WholeText.{place_after}
-use Rattle.rc_work.specs.declared.also.Also.TheVariants.{Nothing}
-use Rattle.rc_work.specs.declared.work.Work.{Work}
-use Rattle.rc_command.specs.declared.command.TextCommand.TheVariants.{Audit, AuditJournal, Run}
-use Rattle.rc_audit.specs.GoodReports.{IsVerdict, bare_lines, good_lines, op_lines, plans_in_lines, run_lines}
-use Rattle.rc_audit.specs.PlanLinesLaws.{plan_lines_are_written}
-use Rattle.rc_audit.specs.VerdictLaws.{one_verdict}
-use Rattle.rc_audit.specs.declared.form.Form.{Form}
+use Rattle.rc_work.specs.Report.{report}
 use Rattle.rc_audit.specs.declared.form.Form.TheVariants as forms
-use Rattle.rc_audit.specs.declared.verdict.Verdict.TheVariants.{Legal}
-use Rattle.rc_answer.specs.Answers.{Answers, AnswersAudit, AnswersPart, AnswersRun, AnswersWork, IsJudgement, IsReport, audit_for, plans_and_report, verdict_status, verdict_text}
-use Rattle.rc_answer.specs.HeadlineLaws.{part_threads}
-use Rattle.rc_answer.specs.Plans.{ArePlanned, op_text}
-use Rattle.rc_answer.specs.Ran.{IsReadAs}
-use Rattle.rc_answer.specs.declared.status.Status.{Status}
-use Rattle.rc_answer.specs.declared.status.Status.TheVariants.{Done, Refused}
 use Rattle.rc_text_laws.specs.BehindLaws.{IsEnded, content_behind, read_behind}
 use Rattle.rc_text_laws.specs.LegalLaws.{journal_shown}
 use Rattle.rc_text_laws.specs.PrintedRunLaws.{content_report, printable, printable_append, printable_plan}

@@ -4,24 +4,9 @@ use Rattle.std.specs.Prelude.{◌==◌, sum_by}
 use Rattle.std.proofs.lemmas.List.{append_assoc}
 use Rattle.std.proofs.lemmas.List.Sums.{sum_by-cons}
 use Rattle.rc_text.specs.Language as language
-use Rattle.rc_text.specs.Lines.{ContentLine, bytes_of_line, content_among, content_from, is_content, lines_of, onto_first, past_end_of, start_of}
-use Rattle.rc_text.specs.LinesLaws.{sum_lines}
-use Rattle.rc_spec.specs.declared.spec.Spec.{Spec}
-use Rattle.rc_spec.specs.Spec.{empty}
+use Rattle.rc_text_laws.specs.Imports.{ContentLine, bytes_of_line, content_among, content_from, is_content, lines_of, onto_first, past_end_of, start_of, sum_lines, Spec, empty, After, Broken, Reading, header_version, spec_reading, LineRule, S8, Version, Also, Work, part_reading, works_are_parts, others_are, work_by, work_reading, place_after, draft_of, threads_of}
 use Rattle.rc_reader.specs.Grammar as spec
-use Rattle.rc_reader.specs.Grammar.{After, Broken, Reading, header_version, spec_reading}
-use Rattle.rc_reader.specs.declared.refusal.LineRule.{LineRule}
-use Rattle.rc_reader.specs.declared.refusal.LineRule.TheVariants.{S8}
-use Rattle.rc_reader.specs.declared.version.Version.{Version}
-use Rattle.rc_work.specs.declared.also.Also.{Also}
-use Rattle.rc_work.specs.declared.work.Work.{Work}
-use Rattle.rc_work.specs.PartGrammar.{part_reading}
-use Rattle.rc_work.specs.PartReadingLaws.{works_are_parts}
-use Rattle.rc_work.specs.PrefixLaws.{others_are}
-use Rattle.rc_work.specs.Ranking.{work_by, work_reading}
-use Rattle.rc_work.specs.WholeText.{place_after}
 use Rattle.rc_work.specs.WorkGrammar as work
-use Rattle.rc_work.specs.WorkGrammar.{draft_of, threads_of}
 use Rattle.rc_text_laws.specs.QuotableLaws.{WorkDraft}
 
 -- ---- the lines of a text that ends with a line feed, and of another behind it

@@ -1,20 +1,10 @@
 -- How many calls a run has: no more than each of 8 threads could make of at most 20,000.
 use Rattle.std.proofs.Common.{◌≡◌, ℕ, zero, suc, ◌+◌, ◌*◌, ◌<◌, ◌≤◌, ◌^◌, Bool, true, false, cond, List, [], ◌∷◌, length, inl, inr, refl, ap, arith}
 use Rattle.std.specs.Prelude.{sum_by, filter, ◌==◌}
-use Rattle.std.specs.List.{flat_map}
+use Rattle.rc_text_laws.specs.Imports.{flat_map, In, Spec, Entry, Step, own, calls_of, steps_of, Turn, Work, KeepsLimits, count_calls, Runs, thread_calls, runs_make_calls}
 use Rattle.std.proofs.lemmas.Bool.{eqb-false}
 use Rattle.std.proofs.lemmas.List.{length-append, length-map}
 use Rattle.std.proofs.lemmas.List.Sums.{sum_by-cons}
-use Rattle.rc_tuple.specs.RisingSet.{In}
-use Rattle.rc_spec.specs.declared.spec.Spec.{Spec}
-use Rattle.rc_rel.specs.declared.entry.Entry.{Entry}
-use Rattle.rc_rel.specs.declared.entry.Step.{Step}
-use Rattle.rc_rel.specs.History.{own, calls_of, steps_of}
-use Rattle.rc_work.specs.declared.work.Turn.{Turn}
-use Rattle.rc_work.specs.declared.work.Work.{Work}
-use Rattle.rc_work.specs.Limits.{KeepsLimits, count_calls}
-use Rattle.rc_work.specs.Runs.{Runs, thread_calls}
-use Rattle.rc_work.specs.RunsLaws.{runs_make_calls}
 
 -- ---- steps by thread
 

@@ -1,17 +1,10 @@
 -- What form words have.
 use Rattle.std.proofs.Common.{◌≡◌, ℕ, ◌<◌, ◌≤◌, Bool, true, false, List, [], ◌∷◌, ◌++◌, length, Option, Some, refl, ap, ◌∙◌, arith, codes}
-use Rattle.std.specs.List.{list_any, position_or_len}
+use Rattle.rc_text_laws.specs.Imports.{list_any, position_or_len, is_number, ColKind, Num, Text, EdgeKind, FormText, header_line, column_line, dependency_line, node_line, edge_line, lock_line, place_line, query_line, insert_line, remove_line, update_line, end_line, is_arrow, is_colon, split_at_arrow, split_at_colon, split_ranges, stripes_read, dependency_of, dependency_by, query_of, query_by, HasUpdates, Version, One, Two}
 use Rattle.std.proofs.lemmas.Bool.{or_parts}
 use Rattle.std.proofs.lemmas.List.{take_all, take_at, drop_all, drop_at}
-use Rattle.rc_text.specs.Numbers.{is_number}
-use Rattle.rc_spec.specs.declared.items.ColKind.{ColKind}
-use Rattle.rc_spec.specs.declared.items.ColKind.TheVariants.{Num, Text}
-use Rattle.rc_spec.specs.declared.items.EdgeKind.{EdgeKind}
 use Rattle.rc_spec.specs.declared.items.EdgeKind.TheVariants as edge_kinds
-use Rattle.rc_reader.specs.Forms.{FormText, header_line, column_line, dependency_line, node_line, edge_line, lock_line, place_line, query_line, insert_line, remove_line, update_line, end_line, is_arrow, is_colon, split_at_arrow, split_at_colon, split_ranges, stripes_read, dependency_of, dependency_by, query_of, query_by, form_of}
-use Rattle.rc_reader.specs.TextLimits.{HasUpdates}
-use Rattle.rc_reader.specs.declared.version.Version.{Version}
-use Rattle.rc_reader.specs.declared.version.Version.TheVariants.{One, Two}
+use Rattle.rc_reader.specs.Forms.{form_of}
 use Rattle.rc_text_laws.specs.Written.{asked_words, words_of_form, LackArrow, LackColon, MayAsk, HasForm}
 
 -- ---- the words before and behind a mark

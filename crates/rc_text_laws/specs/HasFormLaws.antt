@@ -1,20 +1,11 @@
 -- The form of words is exact: words have the form that they are read as, and no other.
 use Rattle.std.proofs.Common.{◌≡◌, ◌↔◌, ℕ, suc, Bool, true, false, cond, List, [], ◌∷◌, ◌++◌, drop, Option, Some, None, refl, sym, ap, ◌∙◌, subst, one-add, arith, codes}
-use Rattle.std.specs.List.{list_any, before_first, position_or_len}
-use Rattle.std.specs.Option.{option_map}
-use Rattle.std.specs.Str.{bytes_eq}
+use Rattle.rc_text_laws.specs.Imports.{list_any, before_first, position_or_len, option_map, bytes_eq, is_number, FormText, header_line, column_line, edge_line, lock_line, insert_line, remove_line, is_arrow, is_colon, split_by, split_at_arrow, ranges_by, split_ranges, stripes_read, header_form, column_form, dependency_of, dependency_by, node_form, edge_form, lock_form, place_form, query_of, query_by, query_form, update_form, operation_form, end_form, version_word, Version, One, Two, Num, Text, EdgeKind, HasUpdates}
 use Rattle.std.proofs.lemmas.List.{append-nil, take-append-drop}
 use Rattle.std.proofs.lemmas.Slice.Eq.{bytes_eq-Decides}
-use Rattle.rc_text.specs.Numbers.{is_number}
-use Rattle.rc_reader.specs.Forms.{FormText, header_line, column_line, edge_line, lock_line, insert_line, remove_line, is_arrow, is_colon, split_by, split_at_arrow, ranges_by, split_ranges, stripes_read, header_form, column_form, dependency_of, dependency_by, node_form, edge_form, lock_form, place_form, query_of, query_by, query_form, update_form, operation_form, end_form, form_of}
-use Rattle.rc_reader.specs.Versions.{version_word}
-use Rattle.rc_reader.specs.declared.version.Version.{Version}
-use Rattle.rc_reader.specs.declared.version.Version.TheVariants.{One, Two}
-use Rattle.rc_spec.specs.declared.items.ColKind.TheVariants.{Num, Text}
-use Rattle.rc_spec.specs.declared.items.EdgeKind.{EdgeKind}
+use Rattle.rc_reader.specs.Forms.{form_of}
 use Rattle.rc_spec.specs.declared.items.EdgeKind.TheVariants as edge_kinds
 use Rattle.rc_text_laws.specs.Written.{asked_words, LackArrow, MayAsk, HasForm}
-use Rattle.rc_reader.specs.TextLimits.{HasUpdates}
 use Rattle.rc_text_laws.specs.FormOfLaws.{form_read}
 
 -- ---- the words before and behind a mark

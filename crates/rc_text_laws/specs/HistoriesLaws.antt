@@ -1,21 +1,10 @@
 -- One report has one history.
 use Rattle.std.proofs.Common.{◌≡◌, ℕ, suc, ◌+◌, ◌<◌, ◌≤◌, ◌^◌, Bool, true, false, cond, List, [], ◌∷◌, ◌++◌, length, map, refl, sym, ap, ◌∙◌, subst, arith}
 use Rattle.std.specs.Prelude.{codes, nat_le, ◌==◌}
-use Rattle.std.specs.List.{AllByRecursion, enumerate_from, list_all, range_with_len, flat_map}
-use Rattle.std.specs.Fmt.{decimal}
+use Rattle.rc_text_laws.specs.Imports.{AllByRecursion, enumerate_from, list_all, range_with_len, flat_map, decimal, Pairs, cols_of, all_columns, IsWellNamed, is_name_byte, Op, Spec, Step, Entry, own, IsNumbered, spaced, words_text, row_text, given, outs_of, pair_words, reply_words, values_and_reply, step_words_at, step_words, step_line, group_head, entry_lines, count_line, final_lines, AreTexts, cut, decimal_one}
 use Rattle.std.proofs.lemmas.Bool.{false≢true, eq-eqb, leb-false}
 use Rattle.std.proofs.lemmas.List.{append_assoc, append_cancel_left, append_cancel_right}
-use Rattle.rc_tuple.specs.Tuple.{Pairs, cols_of}
-use Rattle.rc_spec.specs.Calls.{all_columns}
-use Rattle.rc_spec.specs.Names.{IsWellNamed, is_name_byte}
-use Rattle.rc_spec.specs.declared.items.Op.{Op}
-use Rattle.rc_spec.specs.declared.spec.Spec.{Spec}
-use Rattle.rc_rel.specs.declared.entry.Step.{Step}
-use Rattle.rc_rel.specs.declared.entry.Entry.{Entry}
-use Rattle.rc_rel.specs.History.{own, IsNumbered}
-use Rattle.rc_work.specs.Printed.{spaced, words_text, row_text, given, outs_of, pair_words, reply_words, values_and_reply, step_words_at, step_words}
-use Rattle.rc_work.specs.Report.{step_line, group_head, entry_lines, count_line, final_lines, report}
-use Rattle.rc_work.specs.CutLaws.{AreTexts, cut, decimal_one}
+use Rattle.rc_work.specs.Report.{report}
 use Rattle.rc_text_laws.specs.LinesLaws.{AreShown, row_one, tail_of}
 use Rattle.rc_text_laws.specs.StepsLaws.{IsStepShown, name_bytes, step_one, ends_of}
 

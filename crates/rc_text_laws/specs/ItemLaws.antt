@@ -1,35 +1,10 @@
 -- The lines of a specification that can be written are read as what they say.
 use Rattle.std.proofs.Common.{◌≡◌, ℕ, ◌<◌, ◌≤◌, ◌^◌, false, List, [], ◌∷◌, ◌++◌, length, map, refl, sym, ap, ◌∙◌, subst, inl, inr, arith, lit≤, codes}
 use Rattle.std.specs.Prelude.{decimal}
-use Rattle.std.specs.List.{AllByRecursion}
+use Rattle.rc_text_laws.specs.Imports.{AllByRecursion, In, in_append, in_map, map_in, get_or_in, Dep, IsPrintable, is_number-decimal, plain-number, IsPlain, ColKind, Num, Text, EdgeKind, Column, Node, Edge, Class, Place, Op, OpKind, Spec, AreBelow, HasOutsAmong, range_columns, AreNames, Version, One, Two, KeepsRanges, IsKindOf, KeepsVersion, FormText, header_line, end_line, is_arrow, is_end}
 use Rattle.std.proofs.lemmas.List.Folds.{list_any-append}
-use Rattle.rc_tuple.specs.RisingSet.{In}
-use Rattle.rc_tuple.specs.RisingSetLaws.{in_append, in_map, map_in, get_or_in}
-use Rattle.rc_tuple.specs.declared.dep.Dep.{Dep}
-use Rattle.rc_text.specs.Lines.{IsPrintable}
-use Rattle.rc_text.specs.NumbersLaws.{is_number-decimal, plain-number}
-use Rattle.rc_text.specs.Words.{IsPlain}
-use Rattle.rc_spec.specs.declared.items.ColKind.{ColKind}
-use Rattle.rc_spec.specs.declared.items.ColKind.TheVariants.{Num, Text}
-use Rattle.rc_spec.specs.declared.items.EdgeKind.{EdgeKind}
 use Rattle.rc_spec.specs.declared.items.EdgeKind.TheVariants as edge_kinds
-use Rattle.rc_spec.specs.declared.items.Column.{Column}
-use Rattle.rc_spec.specs.declared.items.Node.{Node}
-use Rattle.rc_spec.specs.declared.items.Edge.{Edge}
-use Rattle.rc_spec.specs.declared.items.Class.{Class}
-use Rattle.rc_spec.specs.declared.items.Place.{Place}
-use Rattle.rc_spec.specs.declared.items.Op.{Op}
-use Rattle.rc_spec.specs.declared.items.OpKind.{OpKind}
 use Rattle.rc_spec.specs.declared.items.OpKind.TheVariants as kinds
-use Rattle.rc_spec.specs.declared.spec.Spec.{Spec}
-use Rattle.rc_spec.specs.InRange.{AreBelow, HasOutsAmong}
-use Rattle.rc_spec.specs.Ranges.{range_columns}
-use Rattle.rc_spec.specs.Names.{AreNames}
-use Rattle.rc_reader.specs.declared.version.Version.{Version}
-use Rattle.rc_reader.specs.declared.version.Version.TheVariants.{One, Two}
-use Rattle.rc_reader.specs.TextLimits.{KeepsRanges, IsKindOf, KeepsVersion}
-use Rattle.rc_reader.specs.Forms.{FormText, header_line, end_line, is_arrow}
-use Rattle.rc_reader.specs.Grammar.{is_end}
 use Rattle.rc_text_laws.specs.Written.{column_kind_word, edge_kind_word, asked_words, words_of_form, LackArrow, LackColon, MayAsk, HasForm, ArePlain, CanBeLine, written_line, name_at, names_at, column_names_at, column_form_of, dependency_form_of, node_form_of, edge_form_of, class_form_of, place_form_of, operation_form_by, operation_form_of, item_forms, spec_lines, CanBeWritten}
 use Rattle.rc_text_laws.specs.WordsLaws.{plain_name, plain_append}
 use Rattle.rc_text_laws.specs.LineLaws.{line_printable, stripes_read-decimal}

@@ -1,12 +1,6 @@
 -- The kinds of lines, and what the kinds of the lines before tell of a line.
 use Rattle.std.specs.Prelude.{◌≡◌, ℕ, Bool, List, Option, Some}
-use Rattle.std.specs.List.{count_by, filter_map}
-use Rattle.std.specs.Option.{option_map, option_and_then}
-use Rattle.rc_text.specs.Lines.{ContentLine}
-use Rattle.rc_reader.specs.declared.sections.LineKind.{LineKind}
-use Rattle.rc_reader.specs.Forms.{FormText, plain_words_of, form_of}
-use Rattle.rc_reader.specs.Sections.{line_kind, is_kind, is_full, is_misplaced}
-use Rattle.rc_reader.specs.declared.version.Version.{Version}
+use Rattle.rc_text_laws.specs.Imports.{count_by, filter_map, option_map, option_and_then, ContentLine, LineKind, FormText, plain_words_of, form_of, line_kind, is_kind, is_full, is_misplaced, Version}
 
 -- what a line of a text of the version says, if it has one of the forms
 abbrev pub line_form : Version → List ℕ → Option FormText

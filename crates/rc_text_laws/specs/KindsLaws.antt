@@ -1,32 +1,11 @@
 -- How many items a specification has of each kind is how many lines of the kind stand before.
 use Rattle.std.proofs.Common.{◌≡◌, ℕ, ◌+◌, ◌≤◌, Bool, true, false, cond, List, [], ◌∷◌, ◌++◌, length, Option, Some, None, Result, Ok, Err, refl, sym, ap, ◌∙◌, subst, arith}
-use Rattle.std.specs.List.{cons_option}
-use Rattle.std.specs.Option.{option_map}
+use Rattle.rc_text_laws.specs.Imports.{cons_option, option_map, ContentLine, Spec, empty, IsInRange, LineRule, S3, S4, S5, S6, S7, FormText, header_line, column_line, dependency_line, node_line, edge_line, lock_line, place_line, query_line, insert_line, remove_line, update_line, end_line, Version, most_columns, judged, breaks_names, breaks_known, breaks_range, breaks_limit, breaks_order, with_line, after_form, line_kind, is_kind, line_count, limit_of, is_full, is_misplaced, LineKind, After, is_end, ended_by, after_form_of, after_bytes, AreTaken, taken_keeps, taken_keeps_version, taken, in_range-keeps, in_range-empty, KeepsTextLimits, KeepsVersion, limits-keeps, limits-empty, version-keeps, version-empty}
 use Rattle.std.proofs.Math.Path.{fun_ext}
 use Rattle.std.proofs.lemmas.Bool.{false≢true}
 use Rattle.std.proofs.lemmas.List.{length_push}
 use Rattle.std.proofs.lemmas.List.Sums.{sum_by-cons}
-use Rattle.rc_text.specs.Lines.{ContentLine}
-use Rattle.rc_spec.specs.declared.spec.Spec.{Spec}
-use Rattle.rc_spec.specs.Spec.{empty}
-use Rattle.rc_spec.specs.InRange.{IsInRange}
-use Rattle.rc_reader.specs.declared.refusal.LineRule.{LineRule}
-use Rattle.rc_reader.specs.declared.refusal.LineRule.TheVariants.{S3, S4, S5, S6, S7}
-use Rattle.rc_reader.specs.Forms.{FormText, header_line, column_line, dependency_line, node_line, edge_line, lock_line, place_line, query_line, insert_line, remove_line, update_line, end_line}
-use Rattle.rc_reader.specs.declared.version.Version.{Version}
-use Rattle.rc_reader.specs.Versions.{most_columns}
-use Rattle.rc_reader.specs.Judging.{judged}
-use Rattle.rc_reader.specs.Rules.{breaks_names, breaks_known, breaks_range, breaks_limit, breaks_order, with_line, after_form}
-use Rattle.rc_reader.specs.Sections.{line_kind, is_kind, line_count, limit_of, is_full, is_misplaced}
-use Rattle.rc_reader.specs.declared.sections.LineKind.{LineKind}
 use Rattle.rc_reader.specs.declared.sections.LineKind.TheVariants as kinds
-use Rattle.rc_reader.specs.Grammar.{After, is_end, ended_by, after_form_of, after_bytes}
-use Rattle.rc_reader.specs.FirstBroken.{AreTaken}
-use Rattle.rc_reader.specs.ReadKeepsLaws.{taken_keeps, taken_keeps_version}
-use Rattle.rc_reader.specs.RulesLaws.{taken}
-use Rattle.rc_reader.specs.InRangeLaws.{in_range-keeps, in_range-empty}
-use Rattle.rc_reader.specs.TextLimits.{KeepsTextLimits, KeepsVersion}
-use Rattle.rc_reader.specs.TextLimitsLaws.{limits-keeps, limits-empty, version-keeps, version-empty}
 use Rattle.rc_text_laws.specs.Kinds.{line_form, Says, kinds_of, how_many, is_one_too_many, is_out_of_order}
 use Rattle.rc_text_laws.specs.LineFormLaws.{told_by_form}
 

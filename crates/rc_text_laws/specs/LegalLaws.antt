@@ -1,40 +1,8 @@
 -- The report of a legal history shows it: the replies of the plain relation are of the kind of their operations,
 -- with known values.
 use Rattle.std.proofs.Common.{◌≡◌, ℕ, ◌+◌, ◌<◌, ◌≤◌, ◌^◌, Bool, true, false, cond, nat_le, List, [], ◌∷◌, ◌++◌, length, map, inl, inr, Option, Some, None, refl, sym, ap, ◌∙◌, subst, arith}
-use Rattle.std.specs.Prelude.{filter, IfSome}
-use Rattle.std.specs.List.{AllByRecursion, list_any, zip}
-use Rattle.std.specs.Ordering.{match_ordering}
-use Rattle.std.specs.declared.cmp.Ordering.{Ordering}
-use Rattle.std.specs.declared.cmp.Ordering.TheVariants.{Less, Equal, Greater}
+use Rattle.rc_text_laws.specs.Imports.{filter, IfSome, AllByRecursion, list_any, zip, match_ordering, Ordering, Less, Equal, Greater, In, put, gather, number_lists_order, in_gather, in_map, in_filter, each_in, in_each, slice_get_in, in_range_below, Pairs, cols_of, value, pick, matches, agree_on, tuple_cmp, is_asked, Range, value_in, breaks, Dep, FitsAt, IsWellNamed, tuple_columns, IsInRange, HasOutsAmong, AreBelow, plain, plain_by, rows_of, row_cmp, at_most, first_broken_dependency, inserted_unless, without, removed_first, updated_unless, updated_first, each_after, plain-known, plain_grows, Op, OpKind, Query, Insert, Remove, Update, Rows, Many, Present, Spec, Step, Entry, IsLegal, IsNumbered, AreLegalFrom, after_steps, steps_of, replay, after_steps-append, bounds_given, kind_at, report, printed_lines, AreTexts}
 use Rattle.std.proofs.lemmas.List.{length-append, length-map}
-use Rattle.rc_tuple.specs.RisingSet.{In, put, gather}
-use Rattle.rc_tuple.specs.RisingSetLaws.{number_lists_order, in_gather, in_map, in_filter, each_in, in_each, slice_get_in}
-use Rattle.rc_tuple.specs.ColSetLaws.{in_range_below}
-use Rattle.rc_tuple.specs.Tuple.{Pairs, cols_of, value, pick, matches, agree_on, tuple_cmp}
-use Rattle.rc_spec.specs.Ranges.{is_asked}
-use Rattle.rc_spec.specs.declared.range.Range.{Range}
-use Rattle.rc_tuple.specs.MergeLaws.{value_in}
-use Rattle.rc_tuple.specs.Relation.{breaks}
-use Rattle.rc_tuple.specs.declared.dep.Dep.{Dep}
-use Rattle.rc_spec.specs.Calls.{FitsAt}
-use Rattle.rc_spec.specs.Names.{IsWellNamed}
-use Rattle.rc_spec.specs.CallsLaws.{tuple_columns}
-use Rattle.rc_spec.specs.InRange.{IsInRange, HasOutsAmong, AreBelow}
-use Rattle.rc_spec.specs.Plain.{plain, plain_by, rows_of, row_cmp, at_most, first_broken_dependency, inserted_unless, without, removed_first, updated_unless, updated_first}
-use Rattle.rc_spec.specs.PlainLaws.{each_after, plain-known, plain_grows}
-use Rattle.rc_spec.specs.declared.items.Op.{Op}
-use Rattle.rc_spec.specs.declared.items.OpKind.{OpKind}
-use Rattle.rc_spec.specs.declared.items.OpKind.TheVariants.{Query, Insert, Remove, Update}
-use Rattle.rc_spec.specs.declared.call.Reply.TheVariants.{Rows, Many, Present}
-use Rattle.rc_spec.specs.declared.spec.Spec.{Spec}
-use Rattle.rc_rel.specs.declared.entry.Step.{Step}
-use Rattle.rc_rel.specs.declared.entry.Entry.{Entry}
-use Rattle.rc_rel.specs.History.{IsLegal, IsNumbered, AreLegalFrom, after_steps, steps_of, replay}
-use Rattle.rc_rel.specs.HistoryLaws.{after_steps-append}
-use Rattle.rc_work.specs.Printed.{bounds_given, kind_at}
-use Rattle.rc_work.specs.Report.{report}
-use Rattle.rc_text.specs.Lines.{printed_lines}
-use Rattle.rc_work.specs.CutLaws.{AreTexts}
 use Rattle.rc_text_laws.specs.LinesLaws.{IsShown, AreShown, IsReplyOf, RowIsShown}
 use Rattle.rc_text_laws.specs.StepsLaws.{IsStepShown}
 use Rattle.rc_text_laws.specs.HistoriesLaws.{IsEntryShown, IsRowShown, IsShownBy}

@@ -31,3 +31,4 @@ pub mod AuditsLaws
 pub mod WordsLaws
 pub mod Written
 pub mod WrittenExample
+pub mod Imports

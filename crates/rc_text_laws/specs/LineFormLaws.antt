@@ -1,16 +1,9 @@
 -- What a line does is told by what it says, and what it says can be written anew.
 use Rattle.std.proofs.Common.{◌≡◌, ◌⊎◌, ◌↔◌, ℕ, zero, suc, ◌≤◌, ◌<◌, ◌^◌, List, ◌∷◌, length, Option, Some, None, Result, Ok, Err, refl, sym, ap, ◌∙◌, subst, inl, inr, arith, lit≤, codes}
-use Rattle.std.specs.Prelude.{decimal, unwrap_or}
-use Rattle.std.specs.Option.{option_and_then}
-use Rattle.rc_text.specs.NumbersLaws.{is_number-decimal, plain-number}
-use Rattle.rc_text.specs.NextWordLaws.{found_comes}
-use Rattle.rc_text.specs.Words.{WordText, plain_text, quoted_text, Found, next_word_of, found_then, words_within, words_of, IsPlain, IsWritable, ComesNext}
-use Rattle.rc_text.specs.declared.words.WordFault.{WordFault}
-use Rattle.rc_spec.specs.declared.spec.Spec.{Spec}
-use Rattle.rc_reader.specs.declared.version.Version.{Version}
-use Rattle.rc_reader.specs.Forms.{FormText, dependency_line, lock_line, query_line, update_line, onto_words, all_plain, plain_words_of, form_of}
-use Rattle.rc_reader.specs.FormsLaws.{IsFormed, formed}
-use Rattle.rc_reader.specs.Grammar.{after_form_of, after_words, after_bytes}
+use Rattle.rc_text_laws.specs.Imports.{unwrap_or, option_and_then, is_number-decimal, plain-number, found_comes, WordText, plain_text, quoted_text, Found, next_word_of, found_then, words_within, IsPlain, IsWritable, ComesNext, WordFault, Spec, Version, FormText, dependency_line, lock_line, query_line, update_line, onto_words, all_plain, plain_words_of, form_of, IsFormed, formed, after_form_of, after_words}
+use Rattle.std.specs.Prelude.{decimal}
+use Rattle.rc_text.specs.Words.{words_of}
+use Rattle.rc_reader.specs.Grammar.{after_bytes}
 use Rattle.rc_text_laws.specs.Written.{stripes_word, words_of_form, HasForm, DifferInNumber, ArePlain, CanBeLine, written_line}
 use Rattle.rc_text_laws.specs.Kinds.{line_form}
 use Rattle.rc_text_laws.specs.WordsLaws.{line_is_read}

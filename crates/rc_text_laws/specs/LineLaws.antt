@@ -1,20 +1,11 @@
 -- A line that is written is read as what it says.
 use Rattle.std.proofs.Common.{◌≡◌, ℕ, ◌^◌, ◌≤◌, true, false, ltb, [], ◌∷◌, ◌++◌, Some, Ok, refl, ap, arith, rules, lit≤, codes}
 use Rattle.std.specs.Prelude.{decimal}
-use Rattle.std.specs.Char.{is_ascii_digit}
-use Rattle.std.specs.List.{list_all}
+use Rattle.rc_text_laws.specs.Imports.{is_ascii_digit, list_all, IsPrintable, number_of, Spec, FormText, header_line, column_line, dependency_line, node_line, edge_line, lock_line, place_line, query_line, insert_line, remove_line, update_line, end_line, stripes_read, version_word, Version, after_form, ended_by, IsSpecLineTaken}
 use Rattle.std.proofs.lemmas.Bool.{ltb-true}
 use Rattle.std.proofs.lemmas.Fmt.{digits_value-decimal}
 use Rattle.std.proofs.lemmas.Str.Parse.{IsNumeralModel, numerals_by_value}
-use Rattle.rc_text.specs.Lines.{IsPrintable}
-use Rattle.rc_text.specs.Numbers.{number_of}
-use Rattle.rc_spec.specs.declared.spec.Spec.{Spec}
-use Rattle.rc_reader.specs.Forms.{FormText, header_line, column_line, dependency_line, node_line, edge_line, lock_line, place_line, query_line, insert_line, remove_line, update_line, end_line, stripes_read}
-use Rattle.rc_reader.specs.Versions.{version_word}
-use Rattle.rc_reader.specs.declared.version.Version.{Version}
-use Rattle.rc_reader.specs.Rules.{after_form}
-use Rattle.rc_reader.specs.Grammar.{ended_by, after_bytes}
-use Rattle.rc_reader.specs.RulesLaws.{IsSpecLineTaken}
+use Rattle.rc_reader.specs.Grammar.{after_bytes}
 use Rattle.rc_text_laws.specs.Written.{column_kind_word, edge_kind_word, stripes_word, asked_words, words_of_form, ArePlain, CanBeLine, written_line}
 use Rattle.rc_text_laws.specs.WordsLaws.{line_is_read, line_is_printable}
 use Rattle.rc_text_laws.specs.FormOfLaws.{form_read}

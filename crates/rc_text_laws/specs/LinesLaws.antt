@@ -1,19 +1,7 @@
 -- The values, tuples and replies of a line determine its words.
 use Rattle.std.proofs.Common.{◌≡◌, ℕ, ◌<◌, ◌^◌, List, [], ◌∷◌, ◌++◌, length, map, inl, inr, refl, sym, ap, ◌∙◌, subst, arith}
-use Rattle.std.specs.List.{zip, AllByRecursion}
+use Rattle.rc_text_laws.specs.Imports.{zip, AllByRecursion, Pairs, cols_of, cols_of-zip, all_columns, ColKind, Num, Text, OpKind, Query, Insert, Remove, Update, Reply, Rows, Many, Inserted, Present, Conflict, Removed, Updated, Absent, Spec, spaced, words_text, kind_at, value_text, pair_text, pair_words, row_text, Ends, AreTexts, decimal_one, rank_one}
 use Rattle.std.proofs.lemmas.List.{append_assoc}
-use Rattle.rc_tuple.specs.Tuple.{Pairs, cols_of}
-use Rattle.rc_tuple.specs.TupleLaws.{cols_of-zip}
-use Rattle.rc_spec.specs.Calls.{all_columns}
-use Rattle.rc_spec.specs.declared.items.ColKind.{ColKind}
-use Rattle.rc_spec.specs.declared.items.ColKind.TheVariants.{Num, Text}
-use Rattle.rc_spec.specs.declared.items.OpKind.{OpKind}
-use Rattle.rc_spec.specs.declared.items.OpKind.TheVariants.{Query, Insert, Remove, Update}
-use Rattle.rc_spec.specs.declared.call.Reply.{Reply}
-use Rattle.rc_spec.specs.declared.call.Reply.TheVariants.{Rows, Many, Inserted, Present, Conflict, Removed, Updated, Absent}
-use Rattle.rc_spec.specs.declared.spec.Spec.{Spec}
-use Rattle.rc_work.specs.Printed.{spaced, words_text, kind_at, value_text, pair_text, pair_words, row_text}
-use Rattle.rc_work.specs.CutLaws.{Ends, AreTexts, decimal_one, rank_one}
 
 -- ---- one value
 

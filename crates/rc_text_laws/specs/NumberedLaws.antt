@@ -1,17 +1,8 @@
 -- The number of a name is the place at which it stands, and so names are read as the numbers that they were written for.
 use Rattle.std.proofs.Common.{◌≡◌, ℕ, zero, suc, ◌+◌, ◌<◌, true, false, List, [], ◌∷◌, ◌++◌, length, map, get_or, Some, None, refl, sym, ap, ◌∙◌, subst, inl, inr, arith}
-use Rattle.std.specs.Prelude.{is_some, is_none}
-use Rattle.std.specs.List.{cons_option, position_from}
-use Rattle.std.specs.Ordering.{nat_cmp}
-use Rattle.std.specs.Str.{bytes_eq}
+use Rattle.rc_text_laws.specs.Imports.{is_some, is_none, cons_option, position_from, nat_cmp, bytes_eq, In, IsRising, AreDistinct, gather, get_or_in, map_in, append_in_right, nat_order, not_below_itself, gather-rising, AreBelow, is_name, AreNames, number_among, is_unknown, is_refused_name, numbers_of, has_unknown, names_twice, test_from_distinct}
 use Rattle.std.proofs.lemmas.List.{map-append}
 use Rattle.std.proofs.lemmas.Slice.Eq.{bytes_eq-Decides}
-use Rattle.rc_tuple.specs.RisingSet.{In, IsRising, AreDistinct, gather}
-use Rattle.rc_tuple.specs.RisingSetLaws.{get_or_in, map_in, append_in_right, nat_order, not_below_itself, gather-rising}
-use Rattle.rc_spec.specs.InRange.{AreBelow}
-use Rattle.rc_spec.specs.Names.{is_name, AreNames}
-use Rattle.rc_reader.specs.Names.{number_among, is_unknown, is_refused_name, numbers_of, has_unknown, names_twice}
-use Rattle.rc_reader.specs.MembersLaws.{test_from_distinct}
 use Rattle.rc_text_laws.specs.Written.{name_at, names_at}
 
 -- two words that differ are told apart

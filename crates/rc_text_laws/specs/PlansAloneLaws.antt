@@ -1,30 +1,10 @@
 -- The plans of all operations are read again where they are printed with `end` behind them, and are then the chosen ones.
 use Rattle.std.proofs.Common.{◌≡◌, ℕ, ◌<◌, ◌≤◌, true, false, cond, eqb, List, [], ◌∷◌, ◌++◌, length, map, Option, Some, Ok, refl, sym, ap, ◌∙◌, subst, inl, inr, arith, codes}
-use Rattle.std.specs.List.{AllByRecursion, flat_map, range_with_len}
-use Rattle.std.specs.Ordering.{nat_cmp}
+use Rattle.rc_text_laws.specs.Imports.{AllByRecursion, flat_map, range_with_len, nat_cmp, in_range_below, in_range_bounds, rising_range, In, AreDistinct, in_map, ContentLine, IsPrintable, bytes_of_content, content_from, printed_lines, start_of, content-printed, IsInRange, IsWellNamed, op_at, Spec, plain_words_of, ArePlansOf, plan_at, KeepsPlanRules, Statement, AllKeepRules, AreChosen, IsChosenBy, plan_for, alone_by, are_end, closed_by, plans_of, says_end, AllHaveSets, AreHands, HaveSets, ops_of, OpsHaveSets, plans_alone, BeginsEnd, start_is_first, Hand}
 use Rattle.std.proofs.lemmas.Bool.{eqb-true, eq-eqb}
 use Rattle.std.proofs.lemmas.Grind.{flat_map-append}
 use Rattle.std.proofs.lemmas.Option.{same_Some}
-use Rattle.rc_tuple.specs.ColSetLaws.{in_range_below, in_range_bounds, rising_range}
-use Rattle.rc_tuple.specs.RisingSet.{In, AreDistinct}
-use Rattle.rc_tuple.specs.RisingSetLaws.{in_map}
-use Rattle.rc_text.specs.Lines.{ContentLine, IsPrintable, bytes_of_content, content_from, printed_lines, start_of}
-use Rattle.rc_text.specs.LinesLaws.{content-printed}
-use Rattle.rc_spec.specs.InRange.{IsInRange}
-use Rattle.rc_spec.specs.Names.{IsWellNamed}
-use Rattle.rc_spec.specs.Placement.{op_at}
-use Rattle.rc_spec.specs.declared.spec.Spec.{Spec}
-use Rattle.rc_reader.specs.Forms.{plain_words_of}
-use Rattle.rc_plan.specs.Compiled.{ArePlansOf, plan_at}
-use Rattle.rc_plan.specs.PlanRules.{KeepsPlanRules}
-use Rattle.rc_plan.specs.declared.statement.Statement.{Statement}
-use Rattle.rc_handplan.specs.Chosen.{AllKeepRules, AreChosen, IsChosenBy, plan_for}
-use Rattle.rc_handplan.specs.HandGrammar.{alone_by, are_end, closed_by, plans_of, says_end}
-use Rattle.rc_handplan.specs.Hands.{AllHaveSets, AreHands, HaveSets, ops_of}
-use Rattle.rc_handplan.specs.PlansText.{OpsHaveSets, op_text, plans_alone}
-use Rattle.rc_handplan.specs.Starts.{BeginsEnd}
-use Rattle.rc_handplan.specs.StartsLaws.{start_is_first}
-use Rattle.rc_handplan.specs.declared.hand.Hand.{Hand}
+use Rattle.rc_handplan.specs.PlansText.{op_text}
 use Rattle.rc_handplan.specs.declared.starts.Closing.TheVariants as closings
 use Rattle.rc_text_laws.specs.NumberedLaws.{distinct_rising}
 use Rattle.rc_text_laws.specs.PlansLaws.{all_plans_are_read_back, plan_lines_are_printed}

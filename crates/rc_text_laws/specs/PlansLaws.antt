@@ -1,33 +1,10 @@
 -- Plans that are printed are read again.
 use Rattle.std.proofs.Common.{◌≡◌, ℕ, ◌+◌, ◌<◌, ◌≤◌, false, nat_le, List, [], ◌∷◌, ◌++◌, length, map, Some, Ok, refl, sym, ap, ◌∙◌, subst, inl, inr, arith, append_assoc, append-nil, codes}
-use Rattle.std.specs.List.{list_any, flat_map}
-use Rattle.std.specs.Option.{option_and_then}
+use Rattle.rc_text_laws.specs.Imports.{list_any, flat_map, option_and_then, In, AreDistinct, get_or_in, map_in, ContentLine, content_from, past_end_of, bytes_of_content, Op, Spec, IsInRange, op_names, IsWellNamed, no_op, op_at, plain_words_of, distinct_apart, number_among, Statement, IsKnown, AreKnown, statement_text, Hand, Closing, hands_from, op_in_words, op_in_head, after_op, after_head, with_next, after_statement, reads_head, reads_statement, ends_at, read_hands, read_sets, is_of, ops_of, with_plan, with_statement, last_plan, onto_last, HasSet, HaveSets, BeginsPlan, BeginsOtherwise, Closes, start_is_first}
 use Rattle.std.proofs.Math.ListN.{get_or-map}
 use Rattle.std.proofs.lemmas.Bool.{lt-leb, ne_eqb}
 use Rattle.std.proofs.lemmas.List.Folds.{flat_map-map}
 use Rattle.std.proofs.lemmas.List.{length-map, length-append, map-append}
-use Rattle.rc_tuple.specs.RisingSet.{In, AreDistinct}
-use Rattle.rc_tuple.specs.RisingSetLaws.{get_or_in, map_in}
-use Rattle.rc_text.specs.Lines.{ContentLine, content_from, past_end_of, bytes_of_content}
-use Rattle.rc_spec.specs.declared.items.Op.{Op}
-use Rattle.rc_spec.specs.declared.spec.Spec.{Spec}
-use Rattle.rc_spec.specs.InRange.{IsInRange}
-use Rattle.rc_spec.specs.Names.{op_names, IsWellNamed}
-use Rattle.rc_spec.specs.Placement.{no_op, op_at}
-use Rattle.rc_reader.specs.Forms.{plain_words_of}
-use Rattle.rc_reader.specs.MembersLaws.{distinct_apart}
-use Rattle.rc_reader.specs.Names.{number_among}
-use Rattle.rc_plan.specs.declared.statement.Statement.{Statement}
-use Rattle.rc_plan.specs.PlanRules.{IsKnown, AreKnown}
-use Rattle.rc_plan.specs.PlanText.{statement_text}
-use Rattle.rc_handplan.specs.declared.hand.Hand.{Hand}
-use Rattle.rc_handplan.specs.declared.starts.Closing.{Closing}
-use Rattle.rc_handplan.specs.HandGrammar.{hands_from, op_in_words, op_in_head, after_op, after_head, with_next, after_statement}
-use Rattle.rc_handplan.specs.HandGrammarLaws.{reads_head, reads_statement, ends_at}
-use Rattle.rc_handplan.specs.HandsLaws.{read_hands, read_sets}
-use Rattle.rc_handplan.specs.Hands.{is_of, ops_of, with_plan, with_statement, last_plan, onto_last, HasSet, HaveSets}
-use Rattle.rc_handplan.specs.Starts.{BeginsPlan, BeginsOtherwise, Closes}
-use Rattle.rc_handplan.specs.StartsLaws.{start_is_first}
 use Rattle.rc_text_laws.specs.NumberedLaws.{number_of_name}
 use Rattle.rc_text_laws.specs.PlansRead.{PlansAreReadAgain, plan_lines, AllPlansAreReadBack, PlansAreReadBack, PlanLinesArePrinted}
 use Rattle.rc_text_laws.specs.PrintedStatementsLaws.{line_again, statement_begins}

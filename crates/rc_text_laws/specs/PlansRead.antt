@@ -1,22 +1,6 @@
 -- Plans as they are printed, and what it is that they are read again.
 use Rattle.std.specs.Prelude.{◌≡◌, ◌≤◌, ◌<◌, ℕ, List, [], ◌∷◌, ◌++◌, length, map, Ok, codes}
-use Rattle.std.specs.List.{flat_map, range_with_len}
-use Rattle.rc_text.specs.Lines.{ContentLine, TextPlace, content_from, bytes_of_content, printed_lines}
-use Rattle.rc_spec.specs.declared.spec.Spec.{Spec}
-use Rattle.rc_spec.specs.InRange.{IsInRange}
-use Rattle.rc_spec.specs.Names.{IsWellNamed}
-use Rattle.rc_spec.specs.Placement.{op_at}
-use Rattle.rc_plan.specs.declared.statement.Statement.{Statement}
-use Rattle.rc_plan.specs.Compiled.{ArePlansOf, plan_at}
-use Rattle.rc_plan.specs.PlanRules.{AreKnown}
-use Rattle.rc_plan.specs.PlanText.{statement_text, plan_text}
-use Rattle.rc_handplan.specs.declared.hand.Hand.{Hand}
-use Rattle.rc_handplan.specs.declared.starts.Closing.{Closing}
-use Rattle.rc_handplan.specs.Chosen.{AllKeepRules, AreChosen}
-use Rattle.rc_handplan.specs.PlansText.{OpsHaveSets, plans_alone}
-use Rattle.rc_handplan.specs.HandGrammar.{HandReading, hands_reading_to, plans_of}
-use Rattle.rc_handplan.specs.Hands.{AreHands, HaveSets, AllHaveSets}
-use Rattle.rc_handplan.specs.Starts.{Closes}
+use Rattle.rc_text_laws.specs.Imports.{flat_map, range_with_len, ContentLine, TextPlace, content_from, bytes_of_content, printed_lines, Spec, IsInRange, IsWellNamed, op_at, Statement, ArePlansOf, plan_at, AreKnown, statement_text, plan_text, Hand, Closing, AllKeepRules, AreChosen, OpsHaveSets, plans_alone, HandReading, hands_reading_to, plans_of, AreHands, HaveSets, AllHaveSets, Closes}
 
 -- the lines in which the plan of an operation is printed
 abbrev pub plan_lines : Spec → Hand → List (List ℕ)

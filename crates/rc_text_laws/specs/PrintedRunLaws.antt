@@ -1,40 +1,10 @@
 -- Each line that is printed of a run is read again where it is printed.
 use Rattle.std.proofs.Common.{◌≡◌, ℕ, zero, suc, ◌+◌, ◌<◌, ◌≤◌, ◌^◌, Bool, true, false, cond, leb, List, [], ◌∷◌, ◌++◌, length, map, get_or, refl, ap, subst, inl, inr, arith}
-use Rattle.std.specs.Prelude.{codes, nat_le}
-use Rattle.std.specs.Char.{is_ascii_digit}
-use Rattle.std.specs.Fmt.{decimal}
-use Rattle.std.specs.List.{AllByRecursion, enumerate_from, flat_map, list_all}
+use Rattle.rc_text_laws.specs.Imports.{codes, nat_le, is_ascii_digit, decimal, AllByRecursion, enumerate_from, flat_map, list_all, In, Pairs, is_text_byte, IsPrintable, is_content, Mode, Shared, Exclusive, Class, Column, Edge, Op, Spec, edge_at, no_edge, IsInRange, IsWellNamed, is_name, class_at, no_class, no_op, op_at, no_column, ReadMode, Lookup, Scan, Statement, Lock, Probe, Read, CheckAbsent, CheckFound, CheckDep, Apply, Emit, Commit, Release, Which, AreKnown, IsKnown, column_text, lock_mode_text, read_mode_text, statement_text, which_text, Entry, Step, digits, row_text, spaced, step_words, entry_lines, final_lines, group_head, head_lines, journal_lines, step_line}
 use Rattle.std.proofs.lemmas.Bool.{and_parts, leb-true, ne_eqb}
 use Rattle.std.proofs.lemmas.Fmt.{decimal_nonempty}
-use Rattle.rc_tuple.specs.RisingSet.{In}
-use Rattle.rc_tuple.specs.Tuple.{Pairs}
-use Rattle.rc_text.specs.Bytes.{is_text_byte}
-use Rattle.rc_text.specs.Lines.{IsPrintable, is_content}
-use Rattle.rc_spec.specs.declared.lock.Mode.{Mode}
-use Rattle.rc_spec.specs.declared.lock.Mode.TheVariants.{Shared, Exclusive}
-use Rattle.rc_spec.specs.declared.items.Class.{Class}
-use Rattle.rc_spec.specs.declared.items.Column.{Column}
-use Rattle.rc_spec.specs.declared.items.Edge.{Edge}
-use Rattle.rc_spec.specs.declared.items.Op.{Op}
-use Rattle.rc_spec.specs.declared.spec.Spec.{Spec}
-use Rattle.rc_spec.specs.Decomposition.{edge_at, no_edge}
-use Rattle.rc_spec.specs.InRange.{IsInRange}
-use Rattle.rc_spec.specs.Names.{IsWellNamed, is_name}
-use Rattle.rc_spec.specs.Placement.{class_at, no_class, no_op, op_at}
-use Rattle.rc_spec.specs.RefusalText.{no_column}
-use Rattle.rc_plan.specs.declared.statement.ReadMode.{ReadMode}
-use Rattle.rc_plan.specs.declared.statement.ReadMode.TheVariants.{Lookup, Scan}
-use Rattle.rc_plan.specs.declared.statement.Statement.{Statement}
-use Rattle.rc_plan.specs.declared.statement.Statement.TheVariants.{Lock, Probe, Read, CheckAbsent, CheckFound, CheckDep, Apply, Emit, Commit, Release}
-use Rattle.rc_plan.specs.declared.statement.Which.{Which}
 use Rattle.rc_plan.specs.declared.statement.Which.TheVariants as which
-use Rattle.rc_plan.specs.PlanRules.{AreKnown, IsKnown}
-use Rattle.rc_plan.specs.PlanText.{column_text, lock_mode_text, read_mode_text, statement_text, which_text}
-use Rattle.rc_rel.specs.declared.entry.Entry.{Entry}
-use Rattle.rc_rel.specs.declared.entry.Step.{Step}
-use Rattle.rc_work.specs.CutLaws.{digits}
-use Rattle.rc_work.specs.Printed.{row_text, spaced, step_words}
-use Rattle.rc_work.specs.Report.{entry_lines, final_lines, group_head, head_lines, journal_lines, report, step_line}
+use Rattle.rc_work.specs.Report.{report}
 use Rattle.rc_text_laws.specs.TextsLaws.{AreText, text_append, text_decimal}
 use Rattle.rc_text_laws.specs.WordsLaws.{plain_name, text_word}
 

@@ -1,46 +1,14 @@
 -- A statement that is printed is read again.
 use Rattle.std.proofs.Common.{◌≡◌, ℕ, ◌<◌, ◌≤◌, List, [], ◌∷◌, ◌++◌, length, map, Option, Some, Ok, refl, sym, ap, ◌∙◌, subst, arith, append_assoc, append-nil, codes}
 use Rattle.std.specs.Prelude.{decimal}
-use Rattle.std.specs.List.{flat_map}
-use Rattle.std.specs.Option.{option_map, option_and_then, ok_or}
-use Rattle.std.specs.Ordering.{nat_cmp}
+use Rattle.rc_text_laws.specs.Imports.{flat_map, option_map, option_and_then, ok_or, nat_cmp, in_range_bounds, In, IsRising, get_or_in, map_in, u64_of, is_number-decimal, u64_of-decimal, plain-number, IsPlain, Class, Column, Edge, Mode, Shared, Exclusive, Spec, all_columns, no_edge, edge_at, IsInRange, AreBelow, column_names, edge_names, class_names, IsWellNamed, no_class, class_at, no_column, plain_words_of, number_among, Lookup, Scan, Statement, Lock, Probe, Read, CheckAbsent, CheckFound, CheckDep, Apply, Emit, Commit, Release, IsKnown, column_text, statement_text, H3, words_of_form, statement_by, statement_in, BeginsOtherwise, start_is_first, columns_named, statement_of, column_name, form_of_statement, HasSet}
 use Rattle.std.proofs.Math.ListN.{get_or-map}
 use Rattle.std.proofs.lemmas.Bool.{le-leb}
 use Rattle.std.proofs.lemmas.List.{length-map}
-use Rattle.rc_tuple.specs.ColSetLaws.{in_range_bounds}
-use Rattle.rc_tuple.specs.RisingSet.{In, IsRising}
-use Rattle.rc_tuple.specs.RisingSetLaws.{get_or_in, map_in}
-use Rattle.rc_text.specs.Numbers.{u64_of}
-use Rattle.rc_text.specs.NumbersLaws.{is_number-decimal, u64_of-decimal, plain-number}
-use Rattle.rc_text.specs.Words.{IsPlain}
-use Rattle.rc_spec.specs.declared.items.Class.{Class}
-use Rattle.rc_spec.specs.declared.items.Column.{Column}
-use Rattle.rc_spec.specs.declared.items.Edge.{Edge}
-use Rattle.rc_spec.specs.declared.lock.Mode.{Mode}
-use Rattle.rc_spec.specs.declared.lock.Mode.TheVariants.{Shared, Exclusive}
-use Rattle.rc_spec.specs.declared.spec.Spec.{Spec}
-use Rattle.rc_spec.specs.Calls.{all_columns}
-use Rattle.rc_spec.specs.Decomposition.{no_edge, edge_at}
-use Rattle.rc_spec.specs.InRange.{IsInRange, AreBelow}
-use Rattle.rc_spec.specs.Names.{column_names, edge_names, class_names, IsWellNamed}
-use Rattle.rc_spec.specs.Placement.{no_class, class_at}
-use Rattle.rc_spec.specs.RefusalText.{no_column}
-use Rattle.rc_reader.specs.Forms.{plain_words_of}
-use Rattle.rc_reader.specs.Names.{number_among}
-use Rattle.rc_plan.specs.declared.statement.ReadMode.TheVariants.{Lookup, Scan}
-use Rattle.rc_plan.specs.declared.statement.Statement.{Statement}
-use Rattle.rc_plan.specs.declared.statement.Statement.TheVariants.{Lock, Probe, Read, CheckAbsent, CheckFound, CheckDep, Apply, Emit, Commit, Release}
 use Rattle.rc_plan.specs.declared.statement.Which.TheVariants as which
-use Rattle.rc_plan.specs.PlanRules.{IsKnown}
-use Rattle.rc_plan.specs.PlanText.{column_text, statement_text}
-use Rattle.rc_handplan.specs.declared.refusal.HandRule.TheVariants.{H3}
-use Rattle.rc_handplan.specs.Forms.{words_of_form, form_of}
-use Rattle.rc_handplan.specs.HandGrammar.{statement_by, statement_in}
-use Rattle.rc_handplan.specs.Starts.{BeginsOtherwise}
-use Rattle.rc_handplan.specs.StartsLaws.{start_is_first}
-use Rattle.rc_handplan.specs.Statements.{columns_named, dependency_by, statement_of, column_name, form_of_statement}
+use Rattle.rc_handplan.specs.Forms.{form_of}
+use Rattle.rc_handplan.specs.Statements.{dependency_by}
 use Rattle.rc_text_laws.specs.NumberedLaws.{number_of_name, known_names, not_twice, distinct_rising, set_of_names, names_at_each}
-use Rattle.rc_handplan.specs.Hands.{HasSet}
 use Rattle.rc_text_laws.specs.WordsLaws.{plain_name, plain_names, line_is_read}
 use Rattle.rc_text_laws.specs.Written.{ArePlain, line_of, name_at, names_at}
 

@@ -2,39 +2,17 @@
 -- in quotes.
 use Rattle.std.proofs.Common.{◌≡◌, ℕ, ◌<◌, ◌≤◌, ◌^◌, Bool, true, false, cond, List, [], ◌∷◌, length, Option, Some, None, Result, Ok, Err, zero, suc, inl, inr, refl, sym, subst, arith}
 use Rattle.std.specs.Prelude.{◌&&◌, All, IfSome, MatchResult, nat_lt, nat_le, codes, unwrap_or}
-use Rattle.std.specs.List.{AllByRecursion, list_all, cons_option}
-use Rattle.std.specs.Str.{bytes_eq}
+use Rattle.rc_text_laws.specs.Imports.{AllByRecursion, list_all, cons_option, bytes_eq, In, each_in, in_flat_map, in_gather, number_lists_order, is_quotable_byte, ContentLine, TextPlace, content_from, past_end_of, found_comes, is_number, number_of, WordText, plain_text, quoted_text, Found, next_word_of, words_within, found_then, IsWritable, ComesNext, WordFault, Spec, LineRule, text_cmp, rank_of, rising_texts_of, rank_of-within, Also, Nothing, Groups, Work, HoldsOfCalls, holds_call, each_push, round_line, call_line, group_line, all_read, words_read, alone, is_value, call_form, group_form, or_call, thread_form, number_by, raw_value, raw_values, raw_call, thread_in, broken_at, threads_of, draft_of, reading_all, IsDraft, IsThreadCount, IsDraft-after_bytes, IsDraft-draft_of, threads_of-count, work_language, LinesMean, ContentMeans, texts_in_value, texts_in_call, texts_in_turn, texts_in_round, texts_in, ranked_value, work_by, work_of, work_reading, are_whole, means-content, AreTexts}
 use Rattle.std.proofs.lemmas.Bool.{ltb-true}
 use Rattle.std.proofs.lemmas.List.Elements.{All-from_recursion, recursion_from_All}
-use Rattle.rc_tuple.specs.RisingSet.{In}
-use Rattle.rc_tuple.specs.RisingSetLaws.{each_in, in_flat_map, in_gather, number_lists_order}
 use Rattle.rc_text.specs.LanguageLaws.{taken_keeps}
-use Rattle.rc_text.specs.Bytes.{is_quotable_byte}
-use Rattle.rc_text.specs.Lines.{ContentLine, TextPlace, content_from, past_end_of}
-use Rattle.rc_text.specs.NextWordLaws.{found_comes}
-use Rattle.rc_text.specs.Numbers.{is_number, number_of}
-use Rattle.rc_text.specs.Words.{WordText, plain_text, quoted_text, Found, next_word_of, words_within, words_of, found_then, IsWritable, ComesNext}
+use Rattle.rc_text.specs.Words.{words_of}
 use Rattle.rc_text.specs.declared.numbers.NumFault.TheVariants as faults
-use Rattle.rc_text.specs.declared.words.WordFault.{WordFault}
-use Rattle.rc_spec.specs.declared.spec.Spec.{Spec}
-use Rattle.rc_reader.specs.declared.refusal.LineRule.{LineRule}
-use Rattle.rc_values.specs.Ranks.{text_cmp, rank_of}
-use Rattle.rc_values.specs.RanksLaws.{rising_texts_of, rank_of-within}
-use Rattle.rc_work.specs.declared.also.Also.{Also}
-use Rattle.rc_work.specs.declared.also.Also.TheVariants.{Nothing, Groups}
-use Rattle.rc_work.specs.declared.work.Work.{Work}
-use Rattle.rc_work.specs.UnfilledGroupsLaws.{HoldsOfCalls, holds_call}
-use Rattle.rc_work.specs.RawTurnsLaws.{each_push}
-use Rattle.rc_work.specs.LineForms.{FormText, round_line, end_line, call_line, group_line, onto_words, all_read, words_read, alone, is_value, call_form, group_form, or_call, thread_form, form_of}
-use Rattle.rc_work.specs.LineRules.{number_by, raw_value, raw_values, raw_call, thread_in, with_line}
+use Rattle.rc_work.specs.LineForms.{FormText, end_line, onto_words, form_of}
+use Rattle.rc_work.specs.LineRules.{with_line}
 use Rattle.rc_work.specs.LineRulesLaws.{taken}
-use Rattle.rc_work.specs.WorkGrammar.{after_form_of, after_words, after_bytes, broken_at, threads_of, draft_of, reading_all}
-use Rattle.rc_work.specs.Drafts.{IsDraft}
-use Rattle.rc_work.specs.DraftsLaws.{IsThreadCount, IsDraft-after_bytes, IsDraft-draft_of, threads_of-count}
-use Rattle.rc_work.specs.FirstBroken.{work_language, AreTaken, LinesMean, ContentMeans}
-use Rattle.rc_work.specs.Ranking.{texts_in_value, texts_in_call, texts_in_turn, texts_in_round, texts_in, ranked_value, work_by, work_of, work_reading}
-use Rattle.rc_work.specs.ReadingLaws.{are_whole, means-content}
-use Rattle.rc_work.specs.CutLaws.{AreTexts}
+use Rattle.rc_work.specs.WorkGrammar.{after_form_of, after_words, after_bytes}
+use Rattle.rc_work.specs.FirstBroken.{AreTaken}
 
 -- ---- the words of a line
 

@@ -1,28 +1,9 @@
 -- What holds of each workload that is read: its limits, its texts, and that its calls fit.
 use Rattle.std.proofs.Common.{◌≡◌, ℕ, ◌*◌, ◌<◌, ◌≤◌, ◌^◌, List, [], ◌∷◌, length, map, Ok, sym, subst, arith}
-use Rattle.std.specs.Prelude.{sum_by}
-use Rattle.std.specs.List.{AllByRecursion, flat_map}
+use Rattle.rc_text_laws.specs.Imports.{sum_by, AllByRecursion, flat_map, each_in, in_map, ContentLine, TextPlace, content_from, past_end_of, IsInRange, IsWellNamed, Spec, text_cmp, texts_of, Also, Work, HasKnownColumns-named, written_columns_at-few, IsOfWords-call_of, IsRawCall, IsRawTurn, AreOfWords, IsOfWords, RoundsFit, KeepsLimits, KnowsTexts, count_raw, texts_in_value, texts_in_call, texts_in_turn, texts_in_round, texts_in, ranked_value, ranked_call, ranked_round, ranked_rounds, work_by, work_of, work_reading, KeepsLimits-work_with, RoundsFit-ranked_rounds, KnowsTexts-work_of, AreTexts, reading_all}
 use Rattle.std.proofs.lemmas.List.{length-append}
 use Rattle.std.proofs.lemmas.List.Elements.{recursion_from_All}
 use Rattle.std.proofs.lemmas.List.Sums.{sum_by-cons}
-use Rattle.rc_tuple.specs.RisingSetLaws.{each_in, in_map}
-use Rattle.rc_text.specs.Lines.{ContentLine, TextPlace, content_from, past_end_of}
-use Rattle.rc_spec.specs.InRange.{IsInRange}
-use Rattle.rc_spec.specs.Names.{IsWellNamed}
-use Rattle.rc_spec.specs.declared.spec.Spec.{Spec}
-use Rattle.rc_values.specs.Ranks.{text_cmp, texts_of}
-use Rattle.rc_work.specs.declared.also.Also.{Also}
-use Rattle.rc_work.specs.declared.work.Work.{Work}
-use Rattle.rc_work.specs.CallColumnsLaws.{HasKnownColumns-named, written_columns_at-few}
-use Rattle.rc_work.specs.CallLaws.{IsOfWords-call_of}
-use Rattle.rc_work.specs.Drafts.{IsRawCall, IsRawTurn}
-use Rattle.rc_work.specs.Fitting.{AreOfWords, IsOfWords, RoundsFit}
-use Rattle.rc_work.specs.Limits.{KeepsLimits, KnowsTexts}
-use Rattle.rc_work.specs.RawTurns.{count_raw}
-use Rattle.rc_work.specs.Ranking.{texts_in_value, texts_in_call, texts_in_turn, texts_in_round, texts_in, ranked_value, ranked_call, ranked_round, ranked_rounds, work_by, work_of, work_reading}
-use Rattle.rc_work.specs.RankingLaws.{KeepsLimits-work_with, RoundsFit-ranked_rounds, KnowsTexts-work_of}
-use Rattle.rc_work.specs.CutLaws.{AreTexts}
-use Rattle.rc_work.specs.WorkGrammar.{reading_all}
 use Rattle.rc_text_laws.specs.LegalLaws.{length-gather-le}
 use Rattle.rc_text_laws.specs.QuotableLaws.{WorkValue, WorkCall, WorkTurn, WorkDraft, IsReadValue, HasReadValues, TurnHasReadValues, HaveReadValues, IsReadDraft, draft_texts, work_of_lines}
 

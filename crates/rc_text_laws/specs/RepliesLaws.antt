@@ -1,16 +1,7 @@
 -- The words of a reply determine it, where its operation is known.
 use Rattle.std.proofs.Common.{◌≡◌, ℕ, List, [], ◌∷◌, ◌++◌, length, map, inl, refl, sym, ap, ◌∙◌, arith}
-use Rattle.std.specs.Prelude.{codes}
-use Rattle.std.specs.List.{zip}
-use Rattle.std.specs.Fmt.{decimal}
+use Rattle.rc_text_laws.specs.Imports.{codes, zip, decimal, OpKind, Query, Insert, Remove, Update, Reply, Rows, Many, Inserted, Present, Conflict, Removed, Updated, Absent, Spec, spaced, row_text, reply_words, outs_of, AreTexts, decimal_one, decimal_not}
 use Rattle.std.proofs.lemmas.List.{append_cancel_left}
-use Rattle.rc_spec.specs.declared.items.OpKind.{OpKind}
-use Rattle.rc_spec.specs.declared.items.OpKind.TheVariants.{Query, Insert, Remove, Update}
-use Rattle.rc_spec.specs.declared.call.Reply.{Reply}
-use Rattle.rc_spec.specs.declared.call.Reply.TheVariants.{Rows, Many, Inserted, Present, Conflict, Removed, Updated, Absent}
-use Rattle.rc_spec.specs.declared.spec.Spec.{Spec}
-use Rattle.rc_work.specs.Printed.{spaced, row_text, reply_words, outs_of}
-use Rattle.rc_work.specs.CutLaws.{AreTexts, decimal_one, decimal_not}
 use Rattle.rc_text_laws.specs.LinesLaws.{IsReplyOf, rows_one, row_one, tail_of}
 
 head_of : (x y : ℕ) (xs ys : List ℕ) → x ∷ xs ≡ y ∷ ys → x ≡ y

@@ -1,33 +1,7 @@
 -- What `run` or `group` prints for an input tells its run.
 use Rattle.std.proofs.Common.{◌≡◌, ℕ, ◌<◌, List, [], ◌∷◌, ◌++◌, length, Some, inl, inr, refl, sym, ap, ◌∙◌, subst, arith}
-use Rattle.std.specs.List.{flat_map, range_with_len}
+use Rattle.rc_text_laws.specs.Imports.{flat_map, range_with_len, In, in_range_bounds, past_end_of, printed_lines, IsSealed, op_at, Spec, plan_at, plan_text, Statement, one_planned, AreChosen, one_chosen_plan, Hand, replay, Entry, report, Also, Nothing, Work, Runs, place_after, IsReport, IsReportBy, plans_and_report, ArePlanned, op_text, plans_text, IsReadAs, IsReadByHand, IsRunBy, IsRunOf, entries_in, run_text, Ran, Status}
 use Rattle.std.proofs.lemmas.List.{append_cancel_left}
-use Rattle.rc_tuple.specs.RisingSet.{In}
-use Rattle.rc_tuple.specs.ColSetLaws.{in_range_bounds}
-use Rattle.rc_text.specs.Lines.{past_end_of, printed_lines}
-use Rattle.rc_spec.specs.Acceptance.{IsSealed}
-use Rattle.rc_spec.specs.Placement.{op_at}
-use Rattle.rc_spec.specs.declared.spec.Spec.{Spec}
-use Rattle.rc_plan.specs.Compiled.{plan_at}
-use Rattle.rc_plan.specs.PlanText.{plan_text}
-use Rattle.rc_plan.specs.declared.statement.Statement.{Statement}
-use Rattle.rc_query.specs.PlannedLaws.{one_planned}
-use Rattle.rc_handplan.specs.Chosen.{AreChosen}
-use Rattle.rc_handplan.specs.ChosenLaws.{one_chosen_plan}
-use Rattle.rc_handplan.specs.declared.hand.Hand.{Hand}
-use Rattle.rc_rel.specs.History.{replay}
-use Rattle.rc_rel.specs.declared.entry.Entry.{Entry}
-use Rattle.rc_work.specs.Report.{report}
-use Rattle.rc_work.specs.declared.also.Also.{Also}
-use Rattle.rc_work.specs.declared.also.Also.TheVariants.{Nothing}
-use Rattle.rc_work.specs.declared.work.Work.{Work}
-use Rattle.rc_work.specs.Runs.{Runs}
-use Rattle.rc_work.specs.WholeText.{place_after}
-use Rattle.rc_answer.specs.Answers.{IsReport, IsReportBy, plans_and_report}
-use Rattle.rc_answer.specs.Plans.{ArePlanned, op_text, plans_text}
-use Rattle.rc_answer.specs.Ran.{IsReadAs, IsReadByHand, IsRunBy, IsRunOf, entries_in, run_text}
-use Rattle.rc_answer.specs.declared.outcome.Ran.{Ran}
-use Rattle.rc_answer.specs.declared.status.Status.{Status}
 use Rattle.rc_text_laws.specs.SpecLaws.{reading_can_be_written}
 use Rattle.rc_text_laws.specs.Written.{CanBeWritten}
 use Rattle.rc_text_laws.specs.RunsLaws.{reports_tell_runs, reports_tell_runs_of_lines}

@@ -1,37 +1,8 @@
 -- The text of a report of a run of a workload determines the run.
 use Rattle.std.proofs.Common.{◌≡◌, ℕ, ◌<◌, ◌≤◌, ◌^◌, List, [], ◌∷◌, length, map, Ok, inl, inr, refl, sym, ap, subst, arith}
-use Rattle.std.specs.List.{AllByRecursion}
+use Rattle.rc_text_laws.specs.Imports.{AllByRecursion, In, map_in, each_in, in_each, Pairs, IsTuple, ContentLine, TextPlace, content_from, past_end_of, printed_lines, Fits, IsWellNamed, IsInRange, ColKind, Num, Text, Call, Spec, Step, Entry, replay, Also, Turn, Work, TurnsFit, RoundsFit, HasTurnSize, KeepsLimits, KnowsTexts, HasKnownTexts, HasKnownValues, IsBounded, AreBounded, Range, bounds_given, kind_at, work_by, work_reading, reading_all, report, Runs, HasTurn, entries_are_turns, AreTexts}
 use Rattle.std.proofs.lemmas.List.{length-map}
 use Rattle.std.proofs.lemmas.List.Elements.{recursion_from_All}
-use Rattle.rc_tuple.specs.RisingSet.{In}
-use Rattle.rc_tuple.specs.RisingSetLaws.{map_in, each_in, in_each}
-use Rattle.rc_tuple.specs.Tuple.{Pairs, IsTuple}
-use Rattle.rc_text.specs.Lines.{ContentLine, TextPlace, content_from, past_end_of, printed_lines}
-use Rattle.rc_spec.specs.Calls.{Fits}
-use Rattle.rc_spec.specs.Names.{IsWellNamed}
-use Rattle.rc_spec.specs.InRange.{IsInRange}
-use Rattle.rc_spec.specs.declared.items.ColKind.{ColKind}
-use Rattle.rc_spec.specs.declared.items.ColKind.TheVariants.{Num, Text}
-use Rattle.rc_spec.specs.declared.call.Call.{Call}
-use Rattle.rc_spec.specs.declared.spec.Spec.{Spec}
-use Rattle.rc_rel.specs.declared.entry.Step.{Step}
-use Rattle.rc_rel.specs.declared.entry.Entry.{Entry}
-use Rattle.rc_rel.specs.History.{replay}
-use Rattle.rc_work.specs.declared.also.Also.{Also}
-use Rattle.rc_work.specs.declared.work.Turn.{Turn}
-use Rattle.rc_work.specs.declared.work.Work.{Work}
-use Rattle.rc_work.specs.Fitting.{TurnsFit, RoundsFit}
-use Rattle.rc_work.specs.Limits.{HasTurnSize, KeepsLimits, KnowsTexts, HasKnownTexts, HasKnownValues}
-use Rattle.rc_spec.specs.Ranges.{IsBounded, AreBounded}
-use Rattle.rc_spec.specs.declared.range.Range.{Range}
-use Rattle.rc_work.specs.Printed.{bounds_given, kind_at}
-use Rattle.rc_work.specs.Ranking.{work_by, work_reading}
-use Rattle.rc_work.specs.WorkGrammar.{reading_all}
-use Rattle.rc_work.specs.Report.{report}
-use Rattle.rc_work.specs.Runs.{Runs}
-use Rattle.rc_work.specs.Runs.{HasTurn}
-use Rattle.rc_work.specs.RunsLaws.{entries_are_turns}
-use Rattle.rc_work.specs.CutLaws.{AreTexts}
 use Rattle.rc_text_laws.specs.LinesLaws.{IsShown, AreShown}
 use Rattle.rc_text_laws.specs.CountLaws.{few_steps}
 use Rattle.rc_text_laws.specs.LegalLaws.{HasCallsShown, IsCallShown, IsJournal, one_report_one_journal}

@@ -1,33 +1,10 @@
 -- The lines of a specification that can be written are taken one after another, section by section.
 use Rattle.std.proofs.Common.{◌≡◌, ℕ, ◌<◌, ◌≤◌, Bool, true, false, not, eqb, ◌||◌, leb, List, [], ◌∷◌, ◌++◌, length, map, refl, sym, ap, ◌∙◌, subst, inl, arith}
-use Rattle.std.specs.Prelude.{unwrap_or}
+use Rattle.rc_text_laws.specs.Imports.{unwrap_or, nat_cmp, inter, In, AreDistinct, gather, append_in_right, distinct_left, Dep, Column, Node, Edge, Class, Place, Op, OpKind, Spec, AreBelow, IsSetBelow, HasOutsAmong, column_names, node_names, edge_names, class_names, op_names, is_name, AreNames, range_columns, empty, distinct_right, distinct_apart, test_from_apart, KeepsVersion, Version, FormText, is_refused_name, lacks, repeats, share, set_named, number_named, IsSpecLineTaken}
 use Rattle.std.proofs.lemmas.Bool.{leb-true}
 use Rattle.std.proofs.lemmas.List.{length-append, length-map, append_assoc, append-nil}
-use Rattle.std.specs.Ordering.{nat_cmp}
-use Rattle.rc_tuple.specs.ColSet.{inter}
-use Rattle.rc_tuple.specs.RisingSet.{In, AreDistinct, gather}
-use Rattle.rc_tuple.specs.RisingSetLaws.{append_in_right, distinct_left}
-use Rattle.rc_tuple.specs.declared.dep.Dep.{Dep}
-use Rattle.rc_spec.specs.declared.items.Column.{Column}
-use Rattle.rc_spec.specs.declared.items.Node.{Node}
-use Rattle.rc_spec.specs.declared.items.Edge.{Edge}
-use Rattle.rc_spec.specs.declared.items.Class.{Class}
-use Rattle.rc_spec.specs.declared.items.Place.{Place}
-use Rattle.rc_spec.specs.declared.items.Op.{Op}
-use Rattle.rc_spec.specs.declared.items.OpKind.{OpKind}
 use Rattle.rc_spec.specs.declared.items.OpKind.TheVariants as kinds
-use Rattle.rc_spec.specs.declared.spec.Spec.{Spec}
-use Rattle.rc_spec.specs.InRange.{AreBelow, IsSetBelow, HasOutsAmong}
-use Rattle.rc_spec.specs.Names.{column_names, node_names, edge_names, class_names, op_names, is_name, AreNames}
-use Rattle.rc_spec.specs.Ranges.{range_columns}
-use Rattle.rc_spec.specs.Spec.{empty}
-use Rattle.rc_reader.specs.MembersLaws.{distinct_right, distinct_apart, test_from_apart}
-use Rattle.rc_reader.specs.TextLimits.{KeepsVersion}
-use Rattle.rc_reader.specs.declared.version.Version.{Version}
-use Rattle.rc_reader.specs.Forms.{FormText}
-use Rattle.rc_reader.specs.Names.{is_refused_name}
-use Rattle.rc_reader.specs.Rules.{lacks, repeats, share, columns_named, set_named, number_named}
-use Rattle.rc_reader.specs.RulesLaws.{IsSpecLineTaken}
+use Rattle.rc_reader.specs.Rules.{columns_named}
 use Rattle.rc_text_laws.specs.Written.{LackArrow, LackColon, ArePlain, name_at, column_names_at, column_form_of, dependency_form_of, node_form_of, edge_form_of, class_form_of, place_form_of, operation_form_by, operation_form_of, item_forms, CanBeWritten}
 use Rattle.rc_text_laws.specs.NumberedLaws.{number_of_name, known_name, numbers_of_names, known_names, not_twice, distinct_rising, set_of_names, new_name, names_at_each}
 use Rattle.rc_text_laws.specs.WordsLaws.{plain_names, names_lack_arrow, names_lack_colon}

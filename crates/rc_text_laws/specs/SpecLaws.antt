@@ -1,26 +1,8 @@
 -- A specification that can be written is what its text is read as, and what a text is read as can be written.
 use Rattle.std.proofs.Common.{◌≡◌, ◌↔◌, ℕ, ◌<◌, true, false, eqb, ◌||◌, List, [], ◌∷◌, ◌++◌, length, map, get_or, drop, Some, Result, Ok, refl, sym, ap, ◌∙◌, subst, inl, inr, arith, codes}
 use Rattle.std.proofs.lemmas.Bool.{eqb-true}
-use Rattle.rc_tuple.specs.RisingSet.{In}
-use Rattle.rc_text.specs.Lines.{ContentLine, start_of, content_from, past_end_of, bytes_of_content}
-use Rattle.rc_text.specs.LinesLaws.{content-printed}
-use Rattle.rc_spec.specs.declared.spec.Spec.{Spec}
-use Rattle.rc_spec.specs.InRange.{IsInRange, HasColumnAndNode}
-use Rattle.rc_spec.specs.Names.{IsWellNamed}
-use Rattle.rc_spec.specs.Spec.{empty}
-use Rattle.std.specs.Option.{option_and_then}
-use Rattle.rc_reader.specs.Versions.{version_word}
-use Rattle.rc_reader.specs.declared.version.Version.{Version}
-use Rattle.rc_reader.specs.declared.version.Version.TheVariants.{One, Two}
-use Rattle.rc_reader.specs.Forms.{FormText, header_line, end_line}
-use Rattle.rc_reader.specs.Grammar.{Reading, Broken, is_end, ended_by, after_bytes, reading_from, version_of, header_version, reading_all, spec_reading, nothing_after, alone, spec_of}
-use Rattle.rc_reader.specs.ReadKeepsLaws.{spec_read, read_keeps, read_keeps_version, read_populated}
-use Rattle.rc_reader.specs.ReadingLaws.{goes_on, ends}
-use Rattle.rc_reader.specs.RulesLaws.{IsSpecLineTaken}
-use Rattle.rc_reader.specs.InRangeLaws.{in_range-keeps, in_range-empty}
-use Rattle.rc_reader.specs.WellNamedLaws.{well_named-keeps, well_named-empty}
-use Rattle.rc_reader.specs.TextLimits.{KeepsTextLimits, KeepsVersion}
-use Rattle.rc_reader.specs.TextLimitsLaws.{limits-keeps, limits-empty, version-keeps, version-empty, second_version}
+use Rattle.rc_text_laws.specs.Imports.{In, ContentLine, start_of, content_from, past_end_of, bytes_of_content, content-printed, Spec, IsInRange, HasColumnAndNode, IsWellNamed, empty, option_and_then, version_word, Version, One, Two, FormText, header_line, end_line, Reading, Broken, is_end, ended_by, after_bytes, reading_from, version_of, header_version, spec_reading, nothing_after, spec_read, read_keeps, read_keeps_version, read_populated, goes_on, ends, IsSpecLineTaken, in_range-keeps, in_range-empty, well_named-keeps, well_named-empty, KeepsTextLimits, KeepsVersion, limits-keeps, limits-empty, version-keeps, version-empty, second_version}
+use Rattle.rc_reader.specs.Grammar.{reading_all, alone, spec_of}
 use Rattle.rc_text_laws.specs.Written.{words_of_form, CanBeLine, written_line, item_forms, spec_lines, spec_text, CanBeWritten}
 use Rattle.rc_text_laws.specs.WordsLaws.{line_is_read}
 use Rattle.rc_text_laws.specs.LineLaws.{line_read, takes}

@@ -1,27 +1,9 @@
 -- The words of a step determine it.
 use Rattle.std.proofs.Common.{◌≡◌, ℕ, zero, suc, true, ◌&&◌, nat_le, List, [], ◌∷◌, ◌++◌, length, map, inl, inr, Some, Option, refl, sym, ap, ◌∙◌, subst, arith}
-use Rattle.std.specs.Prelude.{codes}
-use Rattle.std.specs.List.{slice_get, list_all}
-use Rattle.std.specs.Ordering.{nat_cmp}
+use Rattle.rc_text_laws.specs.Imports.{codes, slice_get, list_all, nat_cmp, In, AreDistinct, gather, nat_order, in_gather, gather_in, map_in, slice_get_in, same_rising, each_in, Pairs, IsTuple, cols_of, value, pair_cmp, pair_order, rising_pairs, one_pair, value_in, FitsAt, value_columns, is_name_byte, begins_name, op_names, IsWellNamed, Op, OpKind, Query, Insert, Remove, Update, Spec, Step, range_column, range_columns, Range, spaced, kind_at, pair_words, bounds_given, given, outs_of, reply_words, values_and_reply, step_words_at, step_words, Ends, AreTexts, cut, ends_stop}
 use Rattle.std.proofs.lemmas.Bool.{and_parts}
 use Rattle.std.proofs.lemmas.List.{append_cancel_left, length-map, map-append}
 use Rattle.std.proofs.lemmas.List.Concat.{flat_map-append}
-use Rattle.rc_tuple.specs.RisingSet.{In, AreDistinct, gather}
-use Rattle.rc_tuple.specs.RisingSetLaws.{nat_order, in_gather, gather_in, map_in, slice_get_in, same_rising, each_in}
-use Rattle.rc_tuple.specs.Tuple.{Pairs, IsTuple, cols_of, value, pair_cmp}
-use Rattle.rc_tuple.specs.TupleLaws.{pair_order, rising_pairs, one_pair}
-use Rattle.rc_tuple.specs.MergeLaws.{value_in}
-use Rattle.rc_spec.specs.Calls.{FitsAt, value_columns}
-use Rattle.rc_spec.specs.Names.{is_name_byte, begins_name, op_names, IsWellNamed}
-use Rattle.rc_spec.specs.declared.items.Op.{Op}
-use Rattle.rc_spec.specs.declared.items.OpKind.{OpKind}
-use Rattle.rc_spec.specs.declared.items.OpKind.TheVariants.{Query, Insert, Remove, Update}
-use Rattle.rc_spec.specs.declared.spec.Spec.{Spec}
-use Rattle.rc_rel.specs.declared.entry.Step.{Step}
-use Rattle.rc_spec.specs.Ranges.{range_column, range_columns}
-use Rattle.rc_spec.specs.declared.range.Range.{Range}
-use Rattle.rc_work.specs.Printed.{spaced, kind_at, pair_words, bounds_given, given, outs_of, reply_words, values_and_reply, step_words_at, step_words}
-use Rattle.rc_work.specs.CutLaws.{Ends, AreTexts, cut, ends_stop}
 use Rattle.rc_text_laws.specs.LinesLaws.{IsShown, AreShown, IsReplyOf, values_one, tail_of}
 use Rattle.rc_text_laws.specs.RepliesLaws.{reply_one}
 

@@ -1,12 +1,7 @@
 -- What a store prints of its plans, given back.
 use Rattle.std.specs.Prelude.{◌≡◌, ℕ, ◌<◌, List, [], length}
-use Rattle.rc_plan.specs.Compiled.{plan_at}
-use Rattle.rc_handplan.specs.PlansText.{OpsHaveSets, plans_alone}
-use Rattle.rc_row.specs.Passes.{compiled_of, spec_of}
-use Rattle.rc_embed.specs.declared.fault.OpenFault.{OpenFault}
-use Rattle.rc_embed.specs.declared.fault.OpenFault.TheVariants.{Line, Memory, Options, Plan, PlanLine, Rule, ShapeLine, TooLong}
+use Rattle.rc_text_laws.specs.Imports.{plan_at, OpsHaveSets, plans_alone, compiled_of, spec_of, OpenFault, Line, Memory, Options, Plan, PlanLine, Rule, ShapeLine, TooLong, IsRefusedWith, IsStoreOfTexts, OpenSeen}
 use Rattle.rc_embed.specs.declared.opening.Options as asked
-use Rattle.rc_embed.specs.Opened.{IsRefusedWith, IsStoreOfTexts, OpenSeen}
 use Rattle.rc_text_laws.specs.PlansRead.{OpsAreShort}
 
 -- the plans of a store, as they are printed, with the line `end` behind them

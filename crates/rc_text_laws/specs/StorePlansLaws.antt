@@ -1,23 +1,9 @@
 -- The plans that a store prints open a store with the same plans.
 use Rattle.std.proofs.Common.{◌≡◌, ℕ, List, [], ◌∷◌, Result, Ok, Err, inl, refl, sym, ap, ◌∙◌, subst}
-use Rattle.rc_tuple.specs.RisingSet.{In}
-use Rattle.rc_tuple.specs.RisingSetLaws.{append_in_right}
-use Rattle.rc_spec.specs.declared.spec.Spec.{Spec}
-use Rattle.rc_spec.specs.Placement.{op_at}
-use Rattle.rc_inline.specs.Placing.{embedded}
+use Rattle.rc_text_laws.specs.Imports.{In, append_in_right, Spec, op_at, embedded, ArePlansOf, refused_law, PlanRefusal, Statement, Hand, AllKeepRules, AreChosen, IsFirstRefused, plans_of, compiled_of, spec_of, Line, Memory, Options, Plan, PlanLine, Rule, ShapeLine, TooLong, IsAskedBy, IsStoreOfTexts, OpenSeen, spec_asked, only_declared, opened_declared}
 use Rattle.rc_reader.specs.Grammar as grammar
-use Rattle.rc_plan.specs.Compiled.{ArePlansOf}
-use Rattle.rc_plan.specs.PlanRulesLaws.{refused_law}
-use Rattle.rc_plan.specs.declared.refusal.PlanRefusal.{PlanRefusal}
-use Rattle.rc_plan.specs.declared.statement.Statement.{Statement}
-use Rattle.rc_handplan.specs.declared.hand.Hand.{Hand}
-use Rattle.rc_handplan.specs.Chosen.{AllKeepRules, AreChosen, IsFirstRefused}
-use Rattle.rc_handplan.specs.HandGrammar.{Broken, plans_of}
-use Rattle.rc_row.specs.Passes.{compiled_of, spec_of}
-use Rattle.rc_embed.specs.declared.fault.OpenFault.TheVariants.{Line, Memory, Options, Plan, PlanLine, Rule, ShapeLine, TooLong}
+use Rattle.rc_handplan.specs.HandGrammar.{Broken}
 use Rattle.rc_embed.specs.declared.opening.Options as asked
-use Rattle.rc_embed.specs.Opened.{IsAskedBy, IsStoreOfTexts, OpenSeen, spec_asked}
-use Rattle.rc_embed.specs.OpenedLaws.{only_declared, opened_declared}
 use Rattle.rc_text_laws.specs.PlansAloneLaws.{printed_plans_are_chosen, printed_plans_are_taken}
 use Rattle.rc_text_laws.specs.PlansRead.{all_hands}
 use Rattle.rc_text_laws.specs.StorePlans.{CanBeGivenBack, PrintedPlansAreNotRefused, PrintedPlansAreTheStores, plans_printed}

@@ -1,30 +1,11 @@
 -- The text of a report determines its lines: each consists of bytes that a text may hold, and none of these is a line feed.
 use Rattle.std.proofs.Common.{◌≡◌, ℕ, ◌+◌, ◌<◌, ◌≤◌, ◌^◌, Bool, true, false, not, cond, List, [], ◌∷◌, ◌++◌, length, map, Some, get_or, refl, sym, ap, ◌∙◌, subst, arith}
 use Rattle.std.specs.Prelude.{codes, nat_le, ◌==◌, slice_get}
-use Rattle.std.specs.Char.{is_ascii_digit}
-use Rattle.std.specs.Fmt.{decimal}
-use Rattle.std.specs.List.{AllByRecursion, enumerate_from, list_all, flat_map, zip}
+use Rattle.rc_text_laws.specs.Imports.{is_ascii_digit, decimal, AllByRecursion, enumerate_from, list_all, flat_map, zip, list_all_in, in_list_all, slice_get_in, Pairs, is_blank, is_quote, is_text_byte, is_plain_byte, is_quotable_byte, lacks_line_feed, printed_lines, Spec, ColKind, Num, Text, OpKind, Query, Insert, Remove, Update, Reply, Rows, Many, Inserted, Present, Conflict, Removed, Updated, Absent, spaced, words_text, kind_at, value_text, pair_words, row_text, reply_words, outs_of, AreTexts, cut, digits, IsWellNamed, is_name_byte, Step, Entry, given, step_words_at, step_words, step_line, group_head, head_lines, entry_lines, journal_lines, final_lines}
 use Rattle.std.proofs.lemmas.Bool.{and_parts, eqb-true, false≢true}
 use Rattle.std.proofs.lemmas.List.{append_assoc}
 use Rattle.std.proofs.lemmas.Option.{slice_get-get_or}
-use Rattle.rc_tuple.specs.RisingSetLaws.{list_all_in, in_list_all, slice_get_in}
-use Rattle.rc_tuple.specs.Tuple.{Pairs}
-use Rattle.rc_text.specs.Bytes.{is_blank, is_quote, is_text_byte, is_plain_byte, is_quotable_byte}
-use Rattle.rc_text.specs.Lines.{lacks_line_feed, printed_lines}
-use Rattle.rc_spec.specs.declared.spec.Spec.{Spec}
-use Rattle.rc_spec.specs.declared.items.ColKind.{ColKind}
-use Rattle.rc_spec.specs.declared.items.ColKind.TheVariants.{Num, Text}
-use Rattle.rc_spec.specs.declared.items.OpKind.{OpKind}
-use Rattle.rc_spec.specs.declared.items.OpKind.TheVariants.{Query, Insert, Remove, Update}
-use Rattle.rc_spec.specs.declared.call.Reply.{Reply}
-use Rattle.rc_spec.specs.declared.call.Reply.TheVariants.{Rows, Many, Inserted, Present, Conflict, Removed, Updated, Absent}
-use Rattle.rc_work.specs.Printed.{spaced, words_text, kind_at, value_text, pair_words, row_text, reply_words, outs_of}
-use Rattle.rc_work.specs.CutLaws.{AreTexts, cut, digits}
-use Rattle.rc_spec.specs.Names.{IsWellNamed, is_name_byte}
-use Rattle.rc_rel.specs.declared.entry.Step.{Step}
-use Rattle.rc_rel.specs.declared.entry.Entry.{Entry}
-use Rattle.rc_work.specs.Printed.{given, step_words_at, step_words}
-use Rattle.rc_work.specs.Report.{step_line, group_head, head_lines, entry_lines, journal_lines, final_lines, report}
+use Rattle.rc_work.specs.Report.{report}
 use Rattle.rc_text_laws.specs.WordsLaws.{digit_is_plain, name_byte_is_plain}
 use Rattle.rc_text_laws.specs.StepsLaws.{IsStepShown, name_bytes, given_shown}
 use Rattle.rc_text_laws.specs.HistoriesLaws.{IsEntryShown, IsRowShown, IsShownBy, one_report_one_history}

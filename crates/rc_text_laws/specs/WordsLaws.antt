@@ -1,19 +1,9 @@
 -- Words that are written plain, and the line of them.
 use Rattle.std.proofs.Common.{◌≡◌, ℕ, ◌≤◌, true, false, not, eqb, leb, ◌&&◌, List, [], ◌∷◌, ◌++◌, length, map, Some, Ok, refl, sym, ap, ◌∙◌, inl, inr, arith, codes}
-use Rattle.std.specs.Char.{is_ascii_digit, is_ascii_lowercase}
-use Rattle.std.specs.List.{list_all, AllByRecursion}
+use Rattle.rc_text_laws.specs.Imports.{is_ascii_digit, is_ascii_lowercase, list_all, AllByRecursion, In, is_blank, is_text_byte, is_plain_byte, is_content, IsPrintable, plain_text, written, words_of, IsPlain, IsWritable, words_of-written, is_name_byte, is_name, all_plain, plain_words_of, list_any, bytes_eq}
 use Rattle.std.proofs.lemmas.Bool.{and_parts, or_cases, ne_eqb, le-leb, leb-true, eqb-true, false≢true}
 use Rattle.std.proofs.lemmas.List.Folds.{list_all-append}
 use Rattle.std.proofs.lemmas.Slice.Eq.{bytes_eq-Decides}
-use Rattle.rc_tuple.specs.RisingSet.{In}
-use Rattle.rc_text.specs.Bytes.{is_blank, is_text_byte, is_plain_byte}
-use Rattle.rc_text.specs.Lines.{is_content, IsPrintable}
-use Rattle.rc_text.specs.Words.{plain_text, written, words_of, IsPlain, IsWritable}
-use Rattle.rc_text.specs.NextWordLaws.{words_of-written}
-use Rattle.rc_spec.specs.Names.{is_name_byte, is_name}
-use Rattle.rc_reader.specs.Forms.{all_plain, plain_words_of}
-use Rattle.std.specs.List.{list_any}
-use Rattle.std.specs.Str.{bytes_eq}
 use Rattle.rc_text_laws.specs.Written.{line_of, LackArrow, LackColon, ArePlain}
 
 byte_between : (b : ℕ) → 48 ≤ b → b ≤ 122 → is_plain_byte b ≡ true

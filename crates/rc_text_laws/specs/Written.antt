@@ -1,30 +1,8 @@
 -- Specifications as they are written: the words of a line, and the lines of a specification.
 use Rattle.std.specs.Prelude.{◌≡◌, ℕ, ◌<◌, true, false, List, [], ◌∷◌, ◌++◌, length, map, get_or, Option, Some, None, decimal, codes}
-use Rattle.std.specs.List.{list_any, AllByRecursion, join_with_byte}
-use Rattle.rc_tuple.specs.declared.dep.Dep.{Dep}
-use Rattle.rc_text.specs.Numbers.{is_number}
-use Rattle.rc_text.specs.Lines.{printed_lines}
-use Rattle.rc_text.specs.Words.{IsPlain}
-use Rattle.rc_spec.specs.declared.items.ColKind.{ColKind}
-use Rattle.rc_spec.specs.declared.items.ColKind.TheVariants.{Num, Text}
-use Rattle.rc_spec.specs.declared.items.EdgeKind.{EdgeKind}
+use Rattle.rc_text_laws.specs.Imports.{list_any, AllByRecursion, join_with_byte, Dep, is_number, printed_lines, IsPlain, ColKind, Num, Text, EdgeKind, Column, Node, Edge, Class, Place, Op, OpKind, Spec, IsInRange, HasColumnAndNode, column_names, node_names, edge_names, class_names, IsWellNamed, FormText, header_line, column_line, dependency_line, node_line, edge_line, lock_line, place_line, query_line, insert_line, remove_line, update_line, end_line, is_arrow, is_colon, stripes_read, KeepsTextLimits, HasUpdates, version_word, Version, One, Two}
 use Rattle.rc_spec.specs.declared.items.EdgeKind.TheVariants as edge_kinds
-use Rattle.rc_spec.specs.declared.items.Column.{Column}
-use Rattle.rc_spec.specs.declared.items.Node.{Node}
-use Rattle.rc_spec.specs.declared.items.Edge.{Edge}
-use Rattle.rc_spec.specs.declared.items.Class.{Class}
-use Rattle.rc_spec.specs.declared.items.Place.{Place}
-use Rattle.rc_spec.specs.declared.items.Op.{Op}
-use Rattle.rc_spec.specs.declared.items.OpKind.{OpKind}
 use Rattle.rc_spec.specs.declared.items.OpKind.TheVariants as kinds
-use Rattle.rc_spec.specs.declared.spec.Spec.{Spec}
-use Rattle.rc_spec.specs.InRange.{IsInRange, HasColumnAndNode}
-use Rattle.rc_spec.specs.Names.{column_names, node_names, edge_names, class_names, IsWellNamed}
-use Rattle.rc_reader.specs.Forms.{FormText, header_line, column_line, dependency_line, node_line, edge_line, lock_line, place_line, query_line, insert_line, remove_line, update_line, end_line, is_arrow, is_colon, stripes_read}
-use Rattle.rc_reader.specs.TextLimits.{KeepsTextLimits, HasUpdates}
-use Rattle.rc_reader.specs.Versions.{version_word}
-use Rattle.rc_reader.specs.declared.version.Version.{Version}
-use Rattle.rc_reader.specs.declared.version.Version.TheVariants.{One, Two}
 
 abbrev pub column_kind_word : ColKind → List ℕ
 column_kind_word Num = codes "num"

@@ -1,11 +1,7 @@
 -- The lines of one specification, as they are written.
 use Rattle.std.specs.Prelude.{◌≡◌, ℕ, [], ◌∷◌, List, drop, decimal, codes}
 use Rattle.std.proofs.Common.{refl}
-use Rattle.rc_spec.specs.declared.items.ColKind.TheVariants.{Num, Text}
-use Rattle.rc_spec.specs.declared.items.EdgeKind.TheVariants.{Hash, Singleton}
-use Rattle.rc_spec.specs.declared.items.OpKind.TheVariants.{Query, Insert, Remove, Update}
-use Rattle.rc_spec.specs.declared.spec.Spec.{Spec}
-use Rattle.rc_reader.specs.declared.version.Version.TheVariants.{One, Two}
+use Rattle.rc_text_laws.specs.Imports.{Num, Text, Hash, Singleton, Query, Insert, Remove, Update, Spec, One, Two}
 use Rattle.rc_text_laws.specs.Written.{line_of, spec_lines}
 
 abbrev pub people : Spec

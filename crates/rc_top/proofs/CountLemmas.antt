@@ -1,13 +1,6 @@
 -- The counts of faults where memory is told to be wanted.
 use Rattle.std.proofs.Common.{◌≡◌, ℕ, Result, Ok, Err, refl}
-use Rattle.rc_answer.specs.declared.outcome.Outcome.{Outcome}
-use Rattle.rc_answer.specs.declared.status.Status.{Status}
-use Rattle.rc_answer.specs.declared.status.Status.TheVariants.{OutOfMemory, SinkFailed}
-use Rattle.rc_answer.specs.declared.status.Stop.{Stop}
-use Rattle.rc_answer.specs.declared.status.Stop.TheVariants.{Memory, Sink}
-use Rattle.rc_answer.specs.Ran.{status_in}
-use Rattle.rc_answer.specs.Writes.{CountsFaults}
-use Rattle.rc_top.specs.Ends.{status_of}
+use Rattle.rc_top.proofs.Imports.{Outcome, Status, OutOfMemory, SinkFailed, Stop, Memory, Sink, status_in, CountsFaults, status_of}
 
 failed_not_memory : SinkFailed ≡ OutOfMemory → ⊥
 failed_not_memory e = cc

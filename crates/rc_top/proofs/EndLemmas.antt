@@ -1,48 +1,9 @@
 -- The end of a command, of what was written.
 use Rattle.std.proofs.Common.{◌≡◌, ℕ, ◌+◌, ◌<◌, ◌≤◌, ◌^◌, ◌⊎◌, inl, inr, List, drop, Option, Some, None, Result, Ok, Err, length, ◌∙◌, refl, sym, subst, ap, arith}
-use Rattle.std.proofs.Math.ListN.{drop_of_length-le}
-use Rattle.std.proofs.Math.Seq.{drop-append_seam}
-use Rattle.rc_io.specs.Bytes.{Adds, AddsPrefix, Takes, IsEmpty}
-use Rattle.rc_io.specs.BytesLaws.{adds_prefix_none, takes_all, takes_at_most, takes_first}
-use Rattle.rc_reader.specs.Grammar.{Broken, Reading, spec_of, spec_reading}
-use Rattle.rc_spec.specs.declared.spec.Spec.{Spec}
-use Rattle.rc_spec.specs.Acceptance.{IsAccepted}
-use Rattle.rc_spec.specs.AcceptanceLaws.{refused_not_accepted}
-use Rattle.rc_plan.specs.declared.statement.Statement.{Statement}
-use Rattle.rc_handplan.specs.Chosen.{AreChosen}
+use Rattle.rc_top.proofs.Imports.{drop_of_length-le, drop-append_seam, Adds, AddsPrefix, Takes, IsEmpty, adds_prefix_none, takes_all, takes_at_most, takes_first, Broken, Reading, spec_of, spec_reading, Spec, IsAccepted, refused_not_accepted, Statement, AreChosen, HandReading, hands_reading, Also, Nothing, Groups, OpenWork, Work, open_reading, version_number, IsSome, op_number, WorkPart, part_reading, work_reading, past_end_of, Form, Verdict, Answers, AnswersAlone, AnswersAudit, AnswersByHand, AnswersHands, AnswersOpen, AnswersOpenWork, AnswersPart, AnswersRules, AnswersRun, AnswersWork, AnswersWorkBy, IsAcceptedText, IsPlanDrawingNamed, IsDrawing, IsPlanDrawingOrRefusal, IsPlansText, IsSizeRefusal, audit_for, verdict_status, work_in_lines, place_after, IsBigText, big_text, refused_plans_fail, ArePlanned, Writes, IsAnswer, IsAnswered, IsGoodByHand, IsGoodOpen, IsGoodPart, IsGoodReading, IsGoodReadingByHand, IsGoodReadingOpen, IsGoodReadingUpToEnd, IsGoodSpec, IsGoodSpecWith, IsGoodWork, KeepsRules, LeavesAllBut, Ends, EndsBig, status_of, OfText, TextCommand, Check, Plan, Run, Group, Audit, AuditJournal, Hand, Open, Dot, DotPlan, Status, Done, Bad, Usage, Refused, SourceFailed, SinkFailed, OutOfMemory, Stop, Memory, Sink}
 use Rattle.rc_handplan.specs.HandGrammar as hand_lines
-use Rattle.rc_handplan.specs.HandGrammar.{HandReading, hands_reading}
-use Rattle.rc_work.specs.declared.also.Also.{Also}
-use Rattle.rc_work.specs.declared.also.Also.TheVariants.{Nothing, Groups}
-use Rattle.rc_work.specs.declared.open_work.OpenWork.{OpenWork}
-use Rattle.rc_work.specs.declared.work.Work.{Work}
-use Rattle.rc_work.specs.OpenGrammar.{open_reading}
-use Rattle.rc_reader.specs.Versions.{version_number}
-use Rattle.std.specs.Prelude.{IsSome}
-use Rattle.rc_work.specs.LineRules.{op_number}
-use Rattle.rc_work.specs.PartGrammar.{WorkPart, part_reading}
-use Rattle.rc_work.specs.Ranking.{work_reading}
-use Rattle.rc_text.specs.Lines.{past_end_of}
-use Rattle.rc_audit.specs.declared.form.Form.{Form}
 use Rattle.rc_audit.specs.declared.form.Form.TheVariants as forms
-use Rattle.rc_audit.specs.declared.verdict.Verdict.{Verdict}
 use Rattle.rc_audit.specs.declared.verdict.Verdict.TheVariants as verdicts
-use Rattle.rc_answer.specs.Answers.{Answers, AnswersAlone, AnswersAudit, AnswersByHand, AnswersHands, AnswersOpen, AnswersOpenWork, AnswersPart, AnswersRules, AnswersRun, AnswersWork, AnswersWorkBy, IsAcceptedText, IsPlanDrawingNamed, IsDrawing, IsPlanDrawingOrRefusal, IsPlansText, IsSizeRefusal, audit_for, verdict_status, work_in_lines}
-use Rattle.rc_work.specs.WholeText.{place_after}
-use Rattle.rc_answer.specs.Big.{IsBigText, big_text}
-use Rattle.rc_answer.specs.HeadlineLaws.{refused_plans_fail}
-use Rattle.rc_answer.specs.Plans.{ArePlanned}
-use Rattle.rc_answer.specs.Writes.{Writes}
-use Rattle.rc_top.specs.Answer.{IsAnswer, IsAnswered, IsGoodByHand, IsGoodOpen, IsGoodPart, IsGoodReading, IsGoodReadingByHand, IsGoodReadingOpen, IsGoodReadingUpToEnd, IsGoodSpec, IsGoodSpecWith, IsGoodWork, KeepsRules}
-use Rattle.rc_top.specs.Asks.{LeavesAllBut}
-use Rattle.rc_top.specs.Ends.{Ends, EndsBig, status_of}
-use Rattle.rc_command.specs.declared.command.Command.TheVariants.{OfText}
-use Rattle.rc_command.specs.declared.command.TextCommand.{TextCommand}
-use Rattle.rc_command.specs.declared.command.TextCommand.TheVariants.{Check, Plan, Run, Group, Audit, AuditJournal, Hand, Open, Dot, DotPlan}
-use Rattle.rc_answer.specs.declared.status.Status.{Status}
-use Rattle.rc_answer.specs.declared.status.Status.TheVariants.{Done, Bad, Usage, Refused, SourceFailed, SinkFailed, OutOfMemory}
-use Rattle.rc_answer.specs.declared.status.Stop.{Stop}
-use Rattle.rc_answer.specs.declared.status.Stop.TheVariants.{Memory, Sink}
 
 -- the status of a text that was written
 abbrev pub IsWritten : Status → Type 0

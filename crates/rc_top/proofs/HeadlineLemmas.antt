@@ -1,21 +1,7 @@
 -- A text that was read and answered has the headline.
 use Rattle.std.proofs.Common.{◌≡◌, ◌↔◌, ◌≤◌, ◌^◌, ℕ, List, Option, Some, None, length, refl, sym, subst}
-use Rattle.std.specs.Prelude.{IfSome, IsSome}
-use Rattle.rc_audit.specs.declared.form.Form.{Form}
+use Rattle.rc_top.proofs.Imports.{IfSome, IsSome, Form, Outcome, Ran, Status, Done, Bad, Usage, Refused, SourceFailed, SinkFailed, OutOfMemory, Answers, MakesCalls, also_of, audit_for, AuditHeadline, CheckHeadline, HandHeadline, Headline, OpenHeadline, audit_headline, check_headline, hand_headline, headline, open_headline, HasTextOf, WritesWhole, TextCommand, Check, Run, Group, Hand, Open, IsAnswer, Ends}
 use Rattle.rc_audit.specs.declared.form.Form.TheVariants as forms
-use Rattle.rc_answer.specs.declared.outcome.Outcome.{Outcome}
-use Rattle.rc_answer.specs.declared.outcome.Ran.{Ran}
-use Rattle.rc_answer.specs.declared.status.Status.{Status}
-use Rattle.rc_answer.specs.declared.status.Status.TheVariants.{Done, Bad, Usage, Refused, SourceFailed, SinkFailed, OutOfMemory}
-use Rattle.rc_answer.specs.Answers.{Answers, MakesCalls, also_of, audit_for}
-use Rattle.rc_answer.specs.Headline.{AuditHeadline, CheckHeadline, HandHeadline, Headline, OpenHeadline}
-use Rattle.rc_answer.specs.HeadlineLaws.{audit_headline, check_headline, hand_headline, headline, open_headline}
-use Rattle.rc_answer.specs.Ran.{HasTextOf}
-use Rattle.rc_answer.specs.Writes.{WritesWhole}
-use Rattle.rc_command.specs.declared.command.TextCommand.{TextCommand}
-use Rattle.rc_command.specs.declared.command.TextCommand.TheVariants.{Check, Run, Group, Hand, Open}
-use Rattle.rc_top.specs.Answer.{IsAnswer}
-use Rattle.rc_top.specs.Ends.{Ends}
 use Rattle.rc_top.proofs.EndLemmas.{IsWritten}
 
 -- what was written is a whole text

@@ -1,26 +1,6 @@
 -- What the end of a command leaves of a run.
 use Rattle.std.proofs.Common.{◌≡◌, ◌∙◌, ◌↔◌, ℕ, List, Option, Some, None, Result, Ok, Err, subst, sym}
-use Rattle.std.specs.Prelude.{IfOk, IfSome, IsSome}
-use Rattle.rc_io.specs.Bytes.{Takes, IsEmpty}
-use Rattle.rc_io.specs.BytesLaws.{takes_all}
-use Rattle.rc_answer.specs.declared.outcome.Outcome.{Outcome}
-use Rattle.rc_answer.specs.declared.outcome.Ran.{Ran}
-use Rattle.rc_answer.specs.declared.status.Status.{Status}
-use Rattle.rc_answer.specs.declared.status.Status.TheVariants.{Done, Refused}
-use Rattle.rc_answer.specs.declared.status.Stop.{Stop}
-use Rattle.rc_answer.specs.declared.status.Stop.TheVariants.{Memory, Sink}
-use Rattle.rc_answer.specs.Answers.{IsSizeRefusal, MakesCalls, also_of, ArePlansFor}
-use Rattle.rc_answer.specs.Big.{HasSummaryText}
-use Rattle.rc_answer.specs.Plans.{ArePlanned}
-use Rattle.rc_answer.specs.Ran.{HasTextOf, IsOneHistory, ran_in, status_in}
-use Rattle.rc_answer.specs.RanLaws.{summed_is_one_history, text_is_one_history}
-use Rattle.rc_answer.specs.Writes.{Writes}
-use Rattle.rc_work.specs.declared.also.Also.TheVariants.{Nothing}
-use Rattle.rc_command.specs.declared.command.Command.{Command}
-use Rattle.rc_command.specs.declared.command.Command.TheVariants.{Big}
-use Rattle.rc_command.specs.declared.command.TextCommand.{TextCommand}
-use Rattle.rc_top.specs.Asks.{also_asked, ArePlansAsked}
-use Rattle.rc_top.specs.Ends.{status_of}
+use Rattle.rc_top.proofs.Imports.{IfOk, IfSome, IsSome, Takes, IsEmpty, takes_all, Outcome, Ran, Status, Done, Refused, Stop, Memory, Sink, IsSizeRefusal, MakesCalls, also_of, ArePlansFor, HasSummaryText, ArePlanned, HasTextOf, IsOneHistory, ran_in, status_in, summed_is_one_history, text_is_one_history, Writes, Nothing, Command, Big, TextCommand, also_asked, ArePlansAsked, status_of}
 
 -- what holds of each run that there may be
 each_some : {A : Type 0} (P Q : A → Type 0) (o : Option A) → ((x : A) → P x → Q x) → IfSome o P → IfSome o Q

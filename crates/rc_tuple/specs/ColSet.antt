@@ -1,8 +1,6 @@
 -- Column sets: rising lists of column numbers below 32.
 use Rattle.std.specs.Prelude.{ℕ, ◌+◌, ◌^◌, ◌<◌, Bool, not, ◌==◌, List, [], ◌∷◌, ◌++◌, length}
-use Rattle.std.specs.List.{filter, list_any, list_all, range_with_len}
-use Rattle.std.specs.Int.{bit_at}
-use Rattle.std.specs.Ordering.{nat_cmp}
+use Rattle.rc_tuple.specs.Imports.{filter, list_any, list_all, range_with_len, bit_at, nat_cmp}
 use Rattle.rc_tuple.specs.RisingSet.{In, IsRising, put, gather}
 
 -- whether the column is in the list

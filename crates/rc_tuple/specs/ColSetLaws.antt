@@ -1,9 +1,6 @@
 -- Laws of column sets, and what a mask says of the set that it stands for.
 use Rattle.std.proofs.Common.{◌≡◌, ℕ, zero, suc, ◌+◌, ◌-◌, ◌++◌, length, Some, None, ◌*◌, ◌/◌, ◌%◌, ◌^◌, ◌<◌, ◌≤◌, Bool, true, false, cond, ◌&&◌, ◌||◌, not, min, max, eqb, leb, ltb, List, [], ◌∷◌, refl, sym, ap, ◌∙◌, ◌⊎◌, inl, inr, lit<, lit≤, subst, arith}
-use Rattle.std.specs.List.{slice_get, filter, range_with_len}
-use Rattle.std.specs.declared.cmp.Ordering.TheVariants.{Less}
-use Rattle.std.specs.Ordering.{nat_cmp}
-use Rattle.std.specs.Int.{bit_at, bit_not, w32}
+use Rattle.rc_tuple.specs.Imports.{slice_get, filter, range_with_len, Less, nat_cmp, bit_at, bit_not, w32}
 use Rattle.std.specs.Prelude.{bit_and, bit_or, count_ones, ◌==◌}
 use Rattle.std.proofs.lemmas.Nat.Bits.{bit_at_or, bit_at_and, bit_at_not, bit_at-lt, bit_at_ones, bit_at_ones_above, bit_at_set_same, bit_at_set_other, shr_and_one, same_from_bits_below, bit_at-zero}
 use Rattle.std.proofs.lemmas.Map.Views.{any-filter_same}

@@ -8,3 +8,4 @@ pub mod Relation
 pub mod Tuple
 pub mod TupleLaws
 pub mod RelationLaws
+pub mod Imports

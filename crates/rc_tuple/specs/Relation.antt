@@ -1,7 +1,6 @@
 -- Relations, functional dependencies, and what they imply.
 use Rattle.std.specs.Prelude.{◌≡◌, ℕ, ◌<◌, ◌^◌, Bool, List, ◌&&◌, not}
-use Rattle.std.specs.List.{list_any}
-use Rattle.std.specs.Ordering.{nat_cmp}
+use Rattle.rc_tuple.specs.Imports.{list_any, nat_cmp}
 use Rattle.rc_tuple.specs.RisingSet.{In, IsRising}
 use Rattle.rc_tuple.specs.ColSet.{Within}
 use Rattle.rc_tuple.specs.Tuple.{Pairs, cols_of, project, tuple_cmp, agree_on}

@@ -1,9 +1,8 @@
 -- Laws of relations and of the dependencies that they satisfy.
 use Rattle.std.proofs.Common.{◌≡◌, ℕ, Bool, true, false, ◌&&◌, ◌||◌, not, cond, List, [], ◌∷◌, refl, sym, ap, ◌∙◌, subst, ◌⊎◌, inl, inr}
-use Rattle.std.specs.List.{list_any}
+use Rattle.rc_tuple.specs.Imports.{list_any, nat_cmp}
 use Rattle.std.proofs.lemmas.Bool.{and_parts, or_cases, and_from, or_left, or_right, not-true, false≢true}
 use Rattle.std.specs.Prelude.{◌↔◌}
-use Rattle.std.specs.Ordering.{nat_cmp}
 use Rattle.rc_tuple.specs.RisingSet.{In, IsRising, put}
 use Rattle.rc_tuple.specs.RisingSetLaws.{in_put, put_new, put_old, same_bool}
 use Rattle.rc_tuple.specs.ColSet.{has}

@@ -1,9 +1,6 @@
 -- Sets as rising lists: a list in which each element is below every later one by an order R.
 use Rattle.std.specs.Prelude.{◌≡◌, ℕ, ◌≤◌, List, [], ◌∷◌, ◌⊎◌, Option, Some, None, length}
-use Rattle.std.specs.List.{insert}
-use Rattle.std.specs.declared.cmp.Ordering.{Ordering}
-use Rattle.std.specs.declared.cmp.Ordering.TheVariants.{Less}
-use Rattle.std.specs.Ordering.{match_ordering}
+use Rattle.rc_tuple.specs.Imports.{insert, Ordering, Less, match_ordering}
 
 -- x is an element of the list
 abbrev pub In : {A : Type 0} → A → List A → Type 0

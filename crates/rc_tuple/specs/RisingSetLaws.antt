@@ -1,12 +1,7 @@
 -- Members of a rising list, and that its members determine it.
 use Rattle.std.specs.Prelude.{◌≡◌, ◌+◌, ◌<◌, length, Bool, true, false, List, [], ◌∷◌, ◌++◌, ◌⊎◌, filter, map, cond}
-use Rattle.std.specs.declared.cmp.Ordering.{Ordering}
-use Rattle.std.specs.declared.cmp.Ordering.TheVariants.{Less, Equal, Greater}
-use Rattle.std.specs.Ordering.{eq_by_cmp, ordering_reverse, is_eq, match_ordering, nat_cmp}
-use Rattle.std.specs.Cmp.{IsEquivalence, IsTotalOrder, eq_by_cmp_equiv}
-use Rattle.std.specs.Cmp.Lexicographic.{slice_cmp}
+use Rattle.rc_tuple.specs.Imports.{Ordering, Less, Equal, Greater, eq_by_cmp, ordering_reverse, is_eq, match_ordering, nat_cmp, IsEquivalence, IsTotalOrder, eq_by_cmp_equiv, slice_cmp, dedup, flat_map, list_all, slice_get, AllByRecursion}
 use Rattle.std.proofs.Common.{ℕ, Some, None, IsPermutation, IsSorted, Contains, zero, suc, arith, take, drop, get_or, inl, inr, refl, sym, ap, subst, ◌∙◌, ◌==◌}
-use Rattle.std.specs.List.{dedup, flat_map, list_all, slice_get, AllByRecursion}
 use Rattle.std.specs.List.Sorted.{IsStrictlySortedBy}
 use Rattle.std.proofs.lemmas.List.Kept.{Contains-dedup, Contains-from_dedup, IsStrictlySortedBy-dedup}
 use Rattle.std.proofs.lemmas.List.Sorted.{Contains-permutation, IsPermutation-sym}

@@ -1,9 +1,6 @@
 -- Tuples: pairs of a column and its value, rising by the columns.
 use Rattle.std.specs.Prelude.{ℕ, ◌<◌, ◌^◌, Bool, Option, Some, None, List, [], ◌∷◌, ◌++◌, ◌||◌, ◌&&◌, ◌==◌, filter, map, not, if◌then◌else◌, unwrap_or}
-use Rattle.std.specs.List.{list_all, list_any, zip}
-use Rattle.std.specs.declared.cmp.Ordering.{Ordering}
-use Rattle.std.specs.Ordering.{ordering_then, nat_cmp, is_eq}
-use Rattle.std.specs.Cmp.Lexicographic.{slice_cmp}
+use Rattle.rc_tuple.specs.Imports.{list_all, list_any, zip, Ordering, ordering_then, nat_cmp, is_eq, slice_cmp}
 use Rattle.rc_tuple.specs.RisingSet.{In, IsRising, gather}
 use Rattle.rc_tuple.specs.ColSet.{has}
 

@@ -1,14 +1,10 @@
 -- Laws of tuples: projection, agreement, merging and matching by their pairs.
 use Rattle.std.specs.Prelude.{◌≡◌, ℕ, ◌<◌, ◌≤◌, ◌^◌, Bool, true, false, List, [], ◌∷◌, ◌++◌, ◌⊎◌, ◌||◌, ◌&&◌, ◌==◌, Some, filter, cond, not, length}
-use Rattle.std.specs.List.{list_all, slice_get, zip}
-use Rattle.std.specs.declared.cmp.Ordering.{Ordering}
-use Rattle.std.specs.declared.cmp.Ordering.TheVariants.{Less, Equal, Greater}
-use Rattle.std.specs.Ordering.{ordering_then, nat_cmp, is_eq}
+use Rattle.rc_tuple.specs.Imports.{list_all, slice_get, zip, Ordering, Less, Equal, Greater, ordering_then, nat_cmp, is_eq, nat_cmp_is, tied_itself}
 use Rattle.std.proofs.Common.{◌+◌, inl, inr, refl, sym, ap, subst, ◌∙◌, arith, take, drop, get_or}
 use Rattle.std.proofs.lemmas.List.{take_more, take_all, map-append, append_assoc, append-nil, length-take, length-map}
 use Rattle.std.proofs.lemmas.Option.{get_or_from_slice_get}
 use Rattle.rc_tuple.specs.ColSetLaws.{rank_all, rank_more, rank_within, slice_get-rank}
-use Rattle.std.specs.Cmp.{nat_cmp_is, tied_itself}
 use Rattle.std.proofs.lemmas.Bool.{false≢true, eqb-true, eq-eqb, or_cases, and_parts, and_from, or_left, or_right, cases_Bool}
 use Rattle.std.proofs.lemmas.Cmp.{nat_cmp_total, then_total, on_total, lists_total}
 use Rattle.rc_tuple.specs.RisingSet.{In, IsRising, AreDistinct, put, gather}

@@ -1,17 +1,6 @@
 -- The parts of the values of a call.
 use Rattle.std.proofs.Common.{◌≡◌, ℕ, ◌*◌, ◌-◌, ◌<◌, ◌≤◌, List, [], length, take, drop, refl, sym, ap, ◌∙◌, arith}
-use Rattle.std.specs.Option.{option_map_or}
-use Rattle.std.proofs.lemmas.List.{take_at, take_rest}
-use Rattle.std.proofs.lemmas.Option.{slice_get-get_or}
-use Rattle.rc_tuple.specs.Tuple.{Pairs}
-use Rattle.rc_spec.specs.declared.call.Call.{Call}
-use Rattle.rc_spec.specs.declared.items.Op.{Op}
-use Rattle.rc_spec.specs.declared.range.Range.{Range}
-use Rattle.rc_spec.specs.declared.spec.Spec.{Spec}
-use Rattle.rc_spec.specs.Placement.{no_op, op_at}
-use Rattle.rc_spec.specs.Ranges.{range_columns}
-use Rattle.rc_work.specs.CallColumns.{columns_at, ranges_at, twice, written_columns_at}
-use Rattle.rc_work.specs.CallColumnsLaws.{length-written_columns_at, written_columns_at-parts}
+use Rattle.rc_work.proofs.Imports.{option_map_or, take_at, take_rest, slice_get-get_or, Pairs, Call, Op, Range, Spec, no_op, op_at, range_columns, columns_at, ranges_at, twice, written_columns_at, length-written_columns_at, written_columns_at-parts}
 
 -- the range columns of the operation that was found
 pub ranges_found : (spec : Spec) (op : ℕ) (found : Op) (ranges : List ℕ) → op < length spec.ops → found ≡ op_at spec op → ranges ≡ range_columns found.kind

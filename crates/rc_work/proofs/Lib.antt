@@ -5,3 +5,4 @@ pub mod ReadingLemmas
 pub mod PartLemmas
 mod OpenReadingLemmas
 mod ShapesReadingLemmas
+mod Imports

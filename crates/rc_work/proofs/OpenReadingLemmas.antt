@@ -1,21 +1,10 @@
 -- The answers of the code that reads a workload whose calls may bring their own operation.
 use Rattle.std.proofs.Common.{◌≡◌, ℕ, Bool, true, false, List, [], ◌∷◌, Option, Some, None, Ok, Err, refl, sym, ap, ◌∙◌, inl, inr}
-use Rattle.std.proofs.lemmas.Bool.{false≢true}
+use Rattle.rc_work.proofs.Imports.{false≢true, ContentLine, TextPlace, content_from, past_end_of, AreRead, Comes, Stops, Reads, Unread, Line, Spec, Refuses, refusal_at, LineFault, S8, OpenDraft, ReadsOpenLine, fails_open_line, open_of, open_language, open_behind, open_all, broken_at, headed}
 use Rattle.rc_text.specs.Language as language
 use Rattle.rc_text.specs.LanguageLaws as laws
-use Rattle.rc_text.specs.Lines.{ContentLine, TextPlace, content_from, past_end_of}
-use Rattle.rc_text.specs.Reads.{AreRead, Comes, Stops, Reads}
-use Rattle.rc_text.specs.declared.language.Unread.{Unread}
-use Rattle.rc_text.specs.declared.lines.Line.{Line}
-use Rattle.rc_spec.specs.declared.spec.Spec.{Spec}
-use Rattle.rc_reader.specs.Answers.{Refuses, refusal_at}
-use Rattle.rc_reader.specs.declared.refusal.LineFault.{LineFault}
 use Rattle.rc_reader.specs.declared.refusal.LineFault.TheVariants as faults
-use Rattle.rc_reader.specs.declared.refusal.LineRule.TheVariants.{S8}
-use Rattle.rc_work.specs.declared.shapes.OpenDraft.{OpenDraft}
-use Rattle.rc_work.specs.OpenAnswers.{ReadsOpenLine, fails_open_line}
-use Rattle.rc_work.specs.OpenGrammar.{open_of, open_language, open_from, open_behind, open_all}
-use Rattle.rc_work.specs.WorkGrammar.{broken_at, headed}
+use Rattle.rc_work.specs.OpenGrammar.{open_from}
 
 module _ (later : Bool) (spec : Spec) where
   -- lines that are read break no rule

@@ -1,32 +1,11 @@
 -- The answers of the code that reads a workload up to its `end`.
 use Rattle.std.proofs.Common.{◌≡◌, ℕ, ◌+◌, List, [], ◌∷◌, Option, Some, None, Ok, Err, refl, sym, ap, ◌∙◌, subst, inl, inr}
-use Rattle.std.specs.Prelude.{IfSome}
+use Rattle.rc_work.proofs.Imports.{IfSome, ContentLine, TextPlace, IsLineStart, content_from, content_of, past_end_of, AreRead, Comes, ReadsLast, Stops, Reads, Unread, Line, Spec, Refuses, refusal_at, Rest, LineFault, S8, ReadRefusal, Also, Draft, Work, IsRestBehind, IsWorkRefusal, ReadsDraftPart, ReadsPart, ReadsPartLine, fails_line, IsDraft, IsOfAlso, IsDraft-reading_all, IsOfAlso-reading_all, DraftPart, part_all, part_behind, draft_parts, part_reading, work_part_by, draft_part, part_refused, work_of, IsWorkRefusal-reading_all, broken_at, draft_of, headed}
 use Rattle.rc_text.specs.Language as language
 use Rattle.rc_text.specs.LanguageLaws as laws
-use Rattle.rc_text.specs.Lines.{ContentLine, TextPlace, IsLineStart, content_from, content_of, past_end_of}
-use Rattle.rc_text.specs.Reads.{AreRead, Comes, ReadsLast, Stops, Reads}
-use Rattle.rc_text.specs.declared.language.Unread.{Unread}
-use Rattle.rc_text.specs.declared.lines.Line.{Line}
-use Rattle.rc_spec.specs.declared.spec.Spec.{Spec}
-use Rattle.rc_reader.specs.Answers.{Refuses, refusal_at}
-use Rattle.rc_reader.specs.declared.reading.Rest.{Rest}
-use Rattle.rc_reader.specs.declared.refusal.LineFault.{LineFault}
 use Rattle.rc_reader.specs.declared.refusal.LineFault.TheVariants as faults
-use Rattle.rc_reader.specs.declared.refusal.LineRule.TheVariants.{S8}
-use Rattle.rc_reader.specs.declared.refusal.ReadRefusal.{ReadRefusal}
 use Rattle.rc_reader.specs.declared.refusal.ReadRefusal.TheVariants as refusals
-use Rattle.rc_work.specs.declared.also.Also.{Also}
-use Rattle.rc_work.specs.declared.draft.Draft.{Draft}
-use Rattle.rc_work.specs.declared.work.Work.{Work}
-use Rattle.rc_work.specs.Answers.{IsRestBehind, IsWorkRefusal, ReadsDraftPart, ReadsPart, ReadsPartLine, fails_line}
-use Rattle.rc_work.specs.Drafts.{IsDraft, IsOfAlso}
-use Rattle.rc_work.specs.DraftsLaws.{IsDraft-reading_all}
-use Rattle.rc_work.specs.GroupsLaws.{IsOfAlso-reading_all}
-use Rattle.rc_work.specs.PartGrammar.{DraftPart, part_all, part_behind, part_from, draft_parts, part_reading, work_part_by}
-use Rattle.rc_work.specs.PartLaws.{draft_part, part_refused}
-use Rattle.rc_work.specs.Ranking.{work_of}
-use Rattle.rc_work.specs.RefusalLaws.{IsWorkRefusal-reading_all}
-use Rattle.rc_work.specs.WorkGrammar.{broken_at, draft_of, headed}
+use Rattle.rc_work.specs.PartGrammar.{part_from}
 
 module _ (also : Also) (spec : Spec) where
   -- lines that are read break no rule

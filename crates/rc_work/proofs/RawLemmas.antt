@@ -1,7 +1,6 @@
 -- Rounds with one more turn.
 use Rattle.std.proofs.Common.{◌≡◌, ℕ, zero, suc, ◌+◌, List, [], ◌∷◌, ◌++◌, length, get_or, set, ap, arith}
-use Rattle.rc_work.specs.declared.raw.RawTurn.{RawTurn}
-use Rattle.rc_work.specs.RawTurns.{onto_last}
+use Rattle.rc_work.proofs.Imports.{RawTurn, onto_last}
 
 -- the last round is written at its place
 pub set_last : (rounds : List (List RawTurn)) (n : ℕ) (round more : List RawTurn) (turn : RawTurn) → n + 1 ≡ length rounds → round ≡ get_or rounds n round → more ≡ round ++ turn ∷ [] → set rounds n more ≡ onto_last rounds turn

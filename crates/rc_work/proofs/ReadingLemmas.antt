@@ -1,21 +1,10 @@
 -- The answers of the code that reads a workload.
 use Rattle.std.proofs.Common.{◌≡◌, ℕ, true, false, List, [], ◌∷◌, Option, Some, None, Ok, Err, refl, sym, ap, ◌∙◌, inl, inr}
-use Rattle.std.proofs.lemmas.Bool.{false≢true}
+use Rattle.rc_work.proofs.Imports.{false≢true, ContentLine, TextPlace, content_from, past_end_of, AreRead, Comes, Stops, Reads, Unread, Line, Spec, Refuses, refusal_at, LineFault, S8, Also, Draft, ReadsLine, fails_line, broken_at, draft_of, drafts, headed, reading_behind, reading_all}
 use Rattle.rc_text.specs.Language as language
 use Rattle.rc_text.specs.LanguageLaws as laws
-use Rattle.rc_text.specs.Lines.{ContentLine, TextPlace, content_from, past_end_of}
-use Rattle.rc_text.specs.Reads.{AreRead, Comes, Stops, Reads}
-use Rattle.rc_text.specs.declared.language.Unread.{Unread}
-use Rattle.rc_text.specs.declared.lines.Line.{Line}
-use Rattle.rc_spec.specs.declared.spec.Spec.{Spec}
-use Rattle.rc_reader.specs.Answers.{Refuses, refusal_at}
-use Rattle.rc_reader.specs.declared.refusal.LineFault.{LineFault}
 use Rattle.rc_reader.specs.declared.refusal.LineFault.TheVariants as faults
-use Rattle.rc_reader.specs.declared.refusal.LineRule.TheVariants.{S8}
-use Rattle.rc_work.specs.declared.also.Also.{Also}
-use Rattle.rc_work.specs.declared.draft.Draft.{Draft}
-use Rattle.rc_work.specs.Answers.{ReadsLine, fails_line}
-use Rattle.rc_work.specs.WorkGrammar.{broken_at, draft_of, drafts, reading_from, headed, reading_behind, reading_all}
+use Rattle.rc_work.specs.WorkGrammar.{reading_from}
 
 module _ (also : Also) (spec : Spec) where
   -- lines that are read break no rule

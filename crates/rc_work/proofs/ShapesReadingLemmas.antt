@@ -1,20 +1,10 @@
 -- The answers of the code that reads a text of shapes.
 use Rattle.std.proofs.Common.{◌≡◌, ℕ, List, [], ◌∷◌, Option, Some, None, Ok, Err, refl, sym, ap, ◌∙◌, inl, inr}
-use Rattle.std.proofs.lemmas.Bool.{false≢true}
+use Rattle.rc_work.proofs.Imports.{false≢true, ContentLine, TextPlace, content_from, past_end_of, start_of, AreRead, Stops, Reads, Unread, Line, Op, Spec, Refuses, refusal_at, LineFault, Version, ReadsShapeLine, fails_shape_line, shapes_language, shapes_of}
 use Rattle.rc_text.specs.Language as language
 use Rattle.rc_text.specs.LanguageLaws as laws
-use Rattle.rc_text.specs.Lines.{ContentLine, TextPlace, content_from, past_end_of, start_of}
-use Rattle.rc_text.specs.Reads.{AreRead, Stops, Reads}
-use Rattle.rc_text.specs.declared.language.Unread.{Unread}
-use Rattle.rc_text.specs.declared.lines.Line.{Line}
-use Rattle.rc_spec.specs.declared.items.Op.{Op}
-use Rattle.rc_spec.specs.declared.spec.Spec.{Spec}
-use Rattle.rc_reader.specs.Answers.{Refuses, refusal_at}
-use Rattle.rc_reader.specs.declared.refusal.LineFault.{LineFault}
 use Rattle.rc_reader.specs.declared.refusal.LineFault.TheVariants as faults
-use Rattle.rc_reader.specs.declared.version.Version.{Version}
-use Rattle.rc_work.specs.ShapesAnswers.{ReadsShapeLine, fails_shape_line}
-use Rattle.rc_work.specs.ShapesGrammar.{shapes_from, shapes_language, shapes_of}
+use Rattle.rc_work.specs.ShapesGrammar.{shapes_from}
 
 module _ (version : Version) (spec : Spec) where
   -- lines that are read break no rule

@@ -1,15 +1,7 @@
 -- How the code's answers give what the definitions give. Want of memory says nothing.
 use Rattle.std.specs.Prelude.{◌≡◌, ℕ, ◌+◌, Bool, false, List, Result, Ok, Err}
-use Rattle.rc_text.specs.Lines.{ContentLine, IsLineStart, content_from}
-use Rattle.rc_reader.specs.Answers.{FailsLine, Refuses, rest_place}
-use Rattle.rc_reader.specs.Grammar.{Broken}
-use Rattle.rc_reader.specs.declared.reading.Rest.{Rest}
-use Rattle.rc_reader.specs.declared.refusal.LineRule.{LineRule}
-use Rattle.rc_reader.specs.declared.refusal.LineRule.TheVariants.{S1, S2, S3, S4, S5, S6, S7, S8, W1, W2, W3, W4, W5}
-use Rattle.rc_reader.specs.declared.refusal.ReadRefusal.{ReadRefusal}
+use Rattle.rc_work.specs.Imports.{ContentLine, IsLineStart, content_from, FailsLine, Refuses, rest_place, Broken, Rest, LineRule, S1, S2, S3, S4, S5, S6, S7, S8, W1, W2, W3, W4, W5, ReadRefusal, LineFault, Spec}
 use Rattle.rc_reader.specs.declared.refusal.ReadRefusal.TheVariants as refusals
-use Rattle.rc_reader.specs.declared.refusal.LineFault.{LineFault}
-use Rattle.rc_spec.specs.declared.spec.Spec.{Spec}
 use Rattle.rc_work.specs.declared.also.Also.{Also}
 use Rattle.rc_work.specs.declared.also.Also.TheVariants.{Nothing, Groups}
 use Rattle.rc_work.specs.declared.draft.Draft.{Draft}

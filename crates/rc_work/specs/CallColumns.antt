@@ -1,16 +1,6 @@
 -- The columns to which calls give values, and the call that values make.
 use Rattle.std.specs.Prelude.{ℕ, ◌≤◌, List, [], ◌∷◌, ◌++◌, length, take, drop}
-use Rattle.std.specs.List.{flat_map, slice_get}
-use Rattle.std.specs.Option.{option_map_or}
-use Rattle.rc_tuple.specs.RisingSet.{In, AreDistinct}
-use Rattle.rc_tuple.specs.Tuple.{tuple_of}
-use Rattle.rc_spec.specs.Calls.{value_columns}
-use Rattle.rc_spec.specs.InRange.{IsOpAmong}
-use Rattle.rc_spec.specs.Ranges.{range_columns}
-use Rattle.rc_spec.specs.declared.call.Call.{Call}
-use Rattle.rc_spec.specs.declared.items.Op.{Op}
-use Rattle.rc_spec.specs.declared.range.Range.{Range}
-use Rattle.rc_spec.specs.declared.spec.Spec.{Spec}
+use Rattle.rc_work.specs.Imports.{flat_map, slice_get, option_map_or, In, AreDistinct, tuple_of, value_columns, IsOpAmong, range_columns, Call, Op, Range, Spec}
 
 -- those of the tuple that a call of the operation with this number gives
 abbrev pub columns_at : Spec → ℕ → List ℕ

@@ -1,21 +1,8 @@
 -- Laws of the columns to which calls give values.
 use Rattle.std.proofs.Common.{◌≡◌, ℕ, ◌+◌, ◌*◌, ◌<◌, ◌≤◌, List, [], ◌∷◌, ◌++◌, Option, Some, None, length, inl, inr, refl, ap, arith}
-use Rattle.std.specs.List.{slice_get}
-use Rattle.std.specs.Option.{option_map_or}
-use Rattle.std.specs.Ordering.{nat_cmp}
+use Rattle.rc_work.specs.Imports.{slice_get, option_map_or, nat_cmp, In, IsRising, AreDistinct, distinct_left, in_append, nat_order, not_below_itself, slice_get_in, in_range_bounds, rising_range, value_columns, AreBelow, IsInRange, IsWellNamed, range_columns, Op, OpKind, Query, Insert, Remove, Update, Spec}
 use Rattle.std.proofs.lemmas.List.{length-append}
 use Rattle.std.proofs.lemmas.List.FromFn.{length-range_with_len}
-use Rattle.rc_tuple.specs.RisingSet.{In, IsRising, AreDistinct}
-use Rattle.rc_tuple.specs.RisingSetLaws.{distinct_left, in_append, nat_order, not_below_itself, slice_get_in}
-use Rattle.rc_tuple.specs.ColSetLaws.{in_range_bounds, rising_range}
-use Rattle.rc_spec.specs.Calls.{value_columns}
-use Rattle.rc_spec.specs.InRange.{AreBelow, IsInRange}
-use Rattle.rc_spec.specs.Names.{IsWellNamed}
-use Rattle.rc_spec.specs.Ranges.{range_columns}
-use Rattle.rc_spec.specs.declared.items.Op.{Op}
-use Rattle.rc_spec.specs.declared.items.OpKind.{OpKind}
-use Rattle.rc_spec.specs.declared.items.OpKind.TheVariants.{Query, Insert, Remove, Update}
-use Rattle.rc_spec.specs.declared.spec.Spec.{Spec}
 use Rattle.rc_work.specs.CallColumns.{HasDistinctColumns, HasKnownColumns, columns_at, ranges_at, twice, written_columns, written_columns_at}
 use Rattle.rc_work.specs.DistinctLaws.{length-distinct-le}
 

@@ -1,20 +1,8 @@
 -- Laws of the calls that values make.
 use Rattle.std.proofs.Common.{◌≡◌, ℕ, zero, suc, ◌*◌, ◌<◌, ◌^◌, List, [], ◌∷◌, ◌++◌, length, take, drop, map, Some, inl, inr, refl, sym, ap, ◌∙◌, subst, arith}
-use Rattle.std.specs.List.{slice_get, zip}
-use Rattle.std.specs.Option.{option_map_or}
-use Rattle.std.specs.Ordering.{nat_cmp}
+use Rattle.rc_work.specs.Imports.{slice_get, zip, option_map_or, nat_cmp, In, gather, append_in_left, append_in_right, in_gather, Pairs, pair_cmp, pair_order, cols_of-tuple_of, IsTuple-tuple_of, value_columns, Fits, IsInRange, IsWellNamed, AreBounded, IsBounded, range_column, range_columns, Op, Spec}
 use Rattle.std.proofs.lemmas.List.{length-take-le, length-drop, take-append-drop}
 use Rattle.std.proofs.lemmas.List.Elements.{All-nil, All-cons}
-use Rattle.rc_tuple.specs.RisingSet.{In, gather}
-use Rattle.rc_tuple.specs.RisingSetLaws.{append_in_left, append_in_right, in_gather}
-use Rattle.rc_tuple.specs.Tuple.{Pairs, pair_cmp}
-use Rattle.rc_tuple.specs.TupleLaws.{pair_order, cols_of-tuple_of, IsTuple-tuple_of}
-use Rattle.rc_spec.specs.Calls.{value_columns, Fits}
-use Rattle.rc_spec.specs.InRange.{IsInRange}
-use Rattle.rc_spec.specs.Names.{IsWellNamed}
-use Rattle.rc_spec.specs.Ranges.{AreBounded, IsBounded, range_column, range_columns}
-use Rattle.rc_spec.specs.declared.items.Op.{Op}
-use Rattle.rc_spec.specs.declared.spec.Spec.{Spec}
 use Rattle.rc_work.specs.CallColumns.{HasDistinctColumns, columns_at, ranges_at, twice, written_columns_at, ranges_of, call_of}
 use Rattle.rc_work.specs.CallColumnsLaws.{HasKnownColumns-named, columns_at-below, columns_at-distinct, length-written_columns_at, written_columns_at-parts}
 use Rattle.rc_work.specs.Fitting.{IsOfWords}

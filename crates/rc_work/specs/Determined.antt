@@ -1,15 +1,6 @@
 -- The columns that dependencies determine, reckoned, and the rules of operations as a test.
 use Rattle.std.specs.Prelude.{ℕ, zero, suc, Bool, not, ◌&&◌, ◌==◌, if◌then◌else◌, List, [], ◌∷◌, length, Option, Some, None}
-use Rattle.std.specs.Ordering.{nat_cmp}
-use Rattle.rc_tuple.specs.RisingSet.{gather}
-use Rattle.rc_tuple.specs.ColSet.{is_within, union}
-use Rattle.rc_tuple.specs.declared.dep.Dep.{Dep}
-use Rattle.rc_spec.specs.declared.items.Op.{Op}
-use Rattle.rc_spec.specs.declared.items.OpKind.{OpKind}
-use Rattle.rc_spec.specs.declared.items.OpKind.TheVariants.{Query, Insert, Remove, Update}
-use Rattle.rc_spec.specs.declared.spec.Spec.{Spec}
-use Rattle.rc_spec.specs.Calls.{all_columns}
-use Rattle.rc_reader.specs.Names.{has_repeat}
+use Rattle.rc_work.specs.Imports.{nat_cmp, gather, is_within, union, Dep, Op, OpKind, Query, Insert, Remove, Update, Spec, all_columns, has_repeat}
 
 -- a dependency that applies, and those beside it
 pub record Applied : Type 0 where

@@ -1,24 +1,8 @@
 -- What is reckoned to be determined is what follows, and the test of an operation's rules is exact.
 use Rattle.std.proofs.Common.{◌≡◌, ◌⊎◌, ℕ, zero, suc, Bool, true, false, not, cond, eqb, List, [], ◌∷◌, length, Option, Some, None, refl, sym, ap, ◌∙◌, subst, inl, inr, arith}
 use Rattle.std.specs.Prelude.{◌↔◌, IsTrue}
-use Rattle.std.specs.Ordering.{nat_cmp}
+use Rattle.rc_work.specs.Imports.{nat_cmp, In, gather, Within, is_within, union, within_from_test, test_from_within, union_left, union_right, Follows, Dep, IsClosed, follows_closed, follows_subset, follows_dependency, follows_transitive, follows_union, Op, OpKind, Query, Insert, Remove, Update, Spec, all_columns, AreOuts, FindsByKey, KeepsO, distinct_from_test, test_from_distinct, has_repeat}
 use Rattle.std.proofs.lemmas.Bool.{and_parts, cases_Bool, false≢true, ne_eqb, not-true}
-use Rattle.rc_tuple.specs.RisingSet.{In, gather}
-use Rattle.rc_tuple.specs.ColSet.{Within, is_within, union}
-use Rattle.rc_tuple.specs.ColSetLaws.{within_from_test, test_from_within, union_left, union_right}
-use Rattle.rc_tuple.specs.Relation.{Follows}
-use Rattle.rc_tuple.specs.declared.dep.Dep.{Dep}
-use Rattle.rc_fd.specs.Closed.{IsClosed}
-use Rattle.rc_fd.specs.ClosedLaws.{follows_closed}
-use Rattle.rc_fd.specs.FollowsLaws.{follows_subset, follows_dependency, follows_transitive, follows_union}
-use Rattle.rc_spec.specs.declared.items.Op.{Op}
-use Rattle.rc_spec.specs.declared.items.OpKind.{OpKind}
-use Rattle.rc_spec.specs.declared.items.OpKind.TheVariants.{Query, Insert, Remove, Update}
-use Rattle.rc_spec.specs.declared.spec.Spec.{Spec}
-use Rattle.rc_spec.specs.Calls.{all_columns}
-use Rattle.rc_spec.specs.Placement.{AreOuts, FindsByKey, KeepsO}
-use Rattle.rc_reader.specs.MembersLaws.{distinct_from_test, test_from_distinct}
-use Rattle.rc_reader.specs.Names.{has_repeat}
 use Rattle.rc_work.specs.Determined.{Applied, beside, first_applied, grown, grown_with, determined, is_key, keeps_by, keeps_rules}
 
 -- ---- the first dependency that applies

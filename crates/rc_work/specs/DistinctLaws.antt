@@ -1,11 +1,7 @@
 -- Distinct numbers below a limit.
 use Rattle.std.proofs.Common.{◌≡◌, ℕ, ◌+◌, ◌<◌, ◌≤◌, ◌-◌, List, [], ◌∷◌, length, inl, inr, refl, sym, arith}
-use Rattle.std.specs.Ordering.{match_ordering, nat_cmp}
-use Rattle.std.specs.declared.cmp.Ordering.{Ordering}
-use Rattle.std.specs.declared.cmp.Ordering.TheVariants.{Less, Equal, Greater}
+use Rattle.rc_work.specs.Imports.{match_ordering, nat_cmp, Ordering, Less, Equal, Greater, In, IsRising, AreDistinct, put, gather, nat_order, in_gather, rising_gather}
 use Rattle.std.proofs.lemmas.Cmp.{ranked}
-use Rattle.rc_tuple.specs.RisingSet.{In, IsRising, AreDistinct, put, gather}
-use Rattle.rc_tuple.specs.RisingSetLaws.{nat_order, in_gather, rising_gather}
 
 -- a rising list of numbers is as long as its range at most
 length-rising-le : (low high : ℕ) (xs : List ℕ) → IsRising nat_cmp xs

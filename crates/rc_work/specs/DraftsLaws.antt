@@ -1,20 +1,10 @@
 -- What is read keeps the limits, and its turns are right.
 use Rattle.std.proofs.Common.{◌≡◌, ℕ, ◌+◌, ◌<◌, ◌≤◌, Bool, true, false, cond, leb, List, [], ◌∷◌, ◌++◌, length, codes, Option, Some, None, Result, Ok, Err, refl, ap, subst, arith}
 use Rattle.std.specs.Prelude.{IfSome, ◌&&◌, ◌==◌}
-use Rattle.std.specs.List.{AllByRecursion}
-use Rattle.std.specs.Str.{bytes_eq}
+use Rattle.rc_work.specs.Imports.{AllByRecursion, bytes_eq, read_keeps, ContentLine, WordText, plain_text, quoted_text, u64_of, NumFault, Spec, Broken, LineRule, S1, S5, S8}
 use Rattle.std.proofs.lemmas.Bool.{and_parts, leb-false, leb-true, eqb-false}
 use Rattle.std.proofs.lemmas.List.{length-append}
-use Rattle.rc_text.specs.LanguageLaws.{read_keeps}
-use Rattle.rc_text.specs.Lines.{ContentLine}
-use Rattle.rc_text.specs.Words.{WordText, plain_text, quoted_text}
-use Rattle.rc_text.specs.Numbers.{u64_of}
-use Rattle.rc_text.specs.declared.numbers.NumFault.{NumFault}
 use Rattle.rc_text.specs.declared.numbers.NumFault.TheVariants as faults
-use Rattle.rc_spec.specs.declared.spec.Spec.{Spec}
-use Rattle.rc_reader.specs.Grammar.{Broken}
-use Rattle.rc_reader.specs.declared.refusal.LineRule.{LineRule}
-use Rattle.rc_reader.specs.declared.refusal.LineRule.TheVariants.{S1, S5, S8}
 use Rattle.rc_work.specs.declared.also.Also.{Also}
 use Rattle.rc_work.specs.declared.raw.RawCall.{RawCall}
 use Rattle.rc_work.specs.declared.raw.RawTurn.{RawTurn}

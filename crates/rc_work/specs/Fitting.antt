@@ -1,11 +1,6 @@
 -- Workloads whose calls fit a specification.
 use Rattle.std.specs.Prelude.{◌<◌, List}
-use Rattle.std.specs.List.{AllByRecursion}
-use Rattle.rc_spec.specs.declared.spec.Spec.{Spec}
-use Rattle.rc_tuple.specs.Tuple.{IsTuple}
-use Rattle.rc_spec.specs.Calls.{Fits}
-use Rattle.rc_spec.specs.Ranges.{AreBounded}
-use Rattle.rc_spec.specs.declared.call.Call.{Call}
+use Rattle.rc_work.specs.Imports.{AllByRecursion, Spec, IsTuple, Fits, AreBounded, Call}
 use Rattle.rc_work.specs.declared.work.Turn.{Turn}
 use Rattle.rc_work.specs.declared.work.Work.{Work}
 

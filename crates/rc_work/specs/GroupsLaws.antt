@@ -1,12 +1,6 @@
 -- Where groups are not read, no group is unfilled, and each turn has one call.
 use Rattle.std.proofs.Common.{◌≡◌, ℕ, Bool, true, false, cond, List, [], ◌∷◌, length, codes, Option, Some, None, Ok, refl, ap, subst}
-use Rattle.std.specs.Prelude.{is_some}
-use Rattle.std.specs.List.{list_all}
-use Rattle.std.specs.Str.{bytes_eq}
-use Rattle.rc_text.specs.Lines.{ContentLine}
-use Rattle.rc_text.specs.Words.{WordText, plain_text, quoted_text}
-use Rattle.rc_text.specs.Numbers.{is_number}
-use Rattle.rc_spec.specs.declared.spec.Spec.{Spec}
+use Rattle.rc_work.specs.Imports.{is_some, list_all, bytes_eq, ContentLine, WordText, plain_text, quoted_text, is_number, Spec}
 use Rattle.rc_work.specs.declared.also.Also.{Also}
 use Rattle.rc_work.specs.declared.also.Also.TheVariants.{Nothing, Groups}
 use Rattle.rc_work.specs.declared.raw.RawCall.{RawCall}

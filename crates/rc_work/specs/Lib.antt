@@ -53,3 +53,4 @@ pub mod OpenRunLaws
 pub mod ShapesGrammar
 pub mod ShapesAnswers
 pub mod ShapesGrammarLaws
+pub mod Imports

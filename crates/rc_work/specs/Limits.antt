@@ -1,11 +1,6 @@
 -- What holds of each workload that is read: its limits, and that its texts are known.
 use Rattle.std.specs.Prelude.{◌≡◌, ℕ, ◌<◌, ◌≤◌, List, length, sum_by}
-use Rattle.std.specs.List.{AllByRecursion}
-use Rattle.rc_tuple.specs.RisingSet.{In}
-use Rattle.rc_tuple.specs.Tuple.{Pairs}
-use Rattle.rc_spec.specs.declared.call.Call.{Call}
-use Rattle.rc_spec.specs.declared.items.ColKind.TheVariants.{Text}
-use Rattle.rc_spec.specs.declared.spec.Spec.{Spec}
+use Rattle.rc_work.specs.Imports.{AllByRecursion, In, Pairs, Call, Text, Spec}
 use Rattle.rc_work.specs.declared.work.Turn.{Turn}
 use Rattle.rc_work.specs.declared.work.Work.{Work}
 use Rattle.rc_work.specs.Printed.{bounds_given, kind_at}

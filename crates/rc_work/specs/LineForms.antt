@@ -1,11 +1,6 @@
 -- The forms of a workload's lines, from their words.
 use Rattle.std.specs.Prelude.{ℕ, Bool, true, ◌&&◌, if◌then◌else◌, List, [], ◌∷◌, map, Option, Some, None, Result, Ok, Err, codes}
-use Rattle.std.specs.List.{list_all}
-use Rattle.std.specs.Str.{bytes_eq}
-use Rattle.rc_text.specs.Words.{WordText, plain_text, quoted_text, text_of, words_of}
-use Rattle.rc_text.specs.declared.words.Word.{Word}
-use Rattle.rc_text.specs.declared.words.WordFault.{WordFault}
-use Rattle.rc_text.specs.Numbers.{is_number}
+use Rattle.rc_work.specs.Imports.{list_all, bytes_eq, WordText, plain_text, quoted_text, text_of, words_of, Word, WordFault, is_number}
 use Rattle.rc_work.specs.declared.also.Also.{Also}
 use Rattle.rc_work.specs.declared.also.Also.TheVariants.{Nothing, Groups}
 use Rattle.rc_work.specs.declared.forms.Form.{Form}

@@ -1,17 +1,7 @@
 -- The rules that a line behind the header may break, after the lines before it, and what it adds where it breaks none.
 use Rattle.std.specs.Prelude.{ℕ, Bool, true, false, not, ◌&&◌, ◌||◌, ◌==◌, nat_le, nat_lt, if◌then◌else◌, List, [], ◌∷◌, ◌++◌, length, Option, Some, None, is_none, is_some, unwrap_or, Result, Ok, Err}
-use Rattle.std.specs.List.{list_any, filter_map}
-use Rattle.std.specs.Option.{option_map_or}
-use Rattle.rc_text.specs.Words.{WordText, plain_text, quoted_text}
-use Rattle.rc_text.specs.Numbers.{u64_of}
-use Rattle.rc_text.specs.declared.numbers.NumFault.{NumFault}
-use Rattle.rc_spec.specs.Names.{op_names}
-use Rattle.rc_spec.specs.declared.items.ColKind.{ColKind}
+use Rattle.rc_work.specs.Imports.{list_any, filter_map, option_map_or, WordText, plain_text, quoted_text, u64_of, NumFault, op_names, ColKind, Spec, number_among, LineRule, S5, S6, S7, S8, W1, W2, W3, W5}
 use Rattle.rc_spec.specs.declared.items.ColKind.TheVariants as kinds
-use Rattle.rc_spec.specs.declared.spec.Spec.{Spec}
-use Rattle.rc_reader.specs.Names.{number_among}
-use Rattle.rc_reader.specs.declared.refusal.LineRule.{LineRule}
-use Rattle.rc_reader.specs.declared.refusal.LineRule.TheVariants.{S5, S6, S7, S8, W1, W2, W3, W5}
 use Rattle.rc_work.specs.declared.raw.RawValue.{RawValue}
 use Rattle.rc_work.specs.declared.raw.RawValue.TheVariants as raw
 use Rattle.rc_work.specs.declared.raw.RawCall.{RawCall}

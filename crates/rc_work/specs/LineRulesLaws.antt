@@ -1,19 +1,9 @@
 -- What a line gives that breaks no rule.
 use Rattle.std.proofs.Common.{◌≡◌, ℕ, suc, ◌<◌, ◌≤◌, Bool, true, false, not, cond, eqb, leb, ltb, List, [], ◌∷◌, length, Option, Some, None, Result, Ok, Err, refl, sym, ap, ◌∙◌, subst}
 use Rattle.std.specs.Prelude.{is_none, unwrap_or, ◌&&◌, ◌||◌}
-use Rattle.std.specs.List.{list_any, filter_map}
-use Rattle.std.specs.Option.{option_map_or}
+use Rattle.rc_work.specs.Imports.{list_any, filter_map, option_map_or, WordText, u64_of, NumFault, op_names, Op, Spec, number_among-below, LineRule, S5, S6, S7, S8, W1, W2, W3, W5}
 use Rattle.std.proofs.lemmas.Bool.{and_parts, or_parts, not-false, leb-true, ltb-true, eqb-true}
 use Rattle.std.proofs.lemmas.List.{length-map}
-use Rattle.rc_text.specs.Words.{WordText}
-use Rattle.rc_text.specs.Numbers.{u64_of}
-use Rattle.rc_text.specs.declared.numbers.NumFault.{NumFault}
-use Rattle.rc_spec.specs.Names.{op_names}
-use Rattle.rc_spec.specs.declared.items.Op.{Op}
-use Rattle.rc_spec.specs.declared.spec.Spec.{Spec}
-use Rattle.rc_reader.specs.NamesLaws.{number_among-below}
-use Rattle.rc_reader.specs.declared.refusal.LineRule.{LineRule}
-use Rattle.rc_reader.specs.declared.refusal.LineRule.TheVariants.{S5, S6, S7, S8, W1, W2, W3, W5}
 use Rattle.rc_work.specs.declared.draft.Draft.{Draft}
 use Rattle.rc_work.specs.CallColumns.{written_columns_at}
 use Rattle.rc_work.specs.LineForms.{FormText, call_line, group_line}

@@ -1,14 +1,6 @@
 -- Histories that go on by turns, made one after another: each with the plain replies.
 use Rattle.std.specs.Prelude.{ℕ, ◌<◌, List, [], ◌∷◌, ◌++◌, length}
-use Rattle.std.specs.List.{AllByRecursion}
-use Rattle.rc_tuple.specs.RisingSet.{In}
-use Rattle.rc_tuple.specs.Tuple.{Pairs}
-use Rattle.rc_spec.specs.declared.call.Call.{Call}
-use Rattle.rc_spec.specs.declared.spec.Spec.{Spec}
-use Rattle.rc_spec.specs.Plain.{plain}
-use Rattle.rc_rel.specs.declared.entry.Entry.{Entry}
-use Rattle.rc_rel.specs.declared.entry.Step.{Step}
-use Rattle.rc_rel.specs.History.{IsLegal, IsNumbered, own, replay}
+use Rattle.rc_work.specs.Imports.{AllByRecursion, In, Pairs, Call, Spec, plain, Entry, Step, IsLegal, IsNumbered, own, replay}
 use Rattle.rc_work.specs.declared.work.Turn.{Turn}
 
 -- the steps of one thread that makes the calls in order, from a relation on

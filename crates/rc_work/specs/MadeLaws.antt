@@ -1,18 +1,8 @@
 -- From a legal and numbered history any turns can be made, in any order: the history goes on by an entry for each.
 use Rattle.std.proofs.Common.{◌≡◌, ℕ, suc, ◌<◌, Bool, true, false, cond, List, [], ◌∷◌, ◌++◌, length, map, refl, sym, ap, ◌∙◌, inl, inr, subst}
 use Rattle.std.specs.Prelude.{◌==◌, filter}
-use Rattle.std.specs.List.{AllByRecursion}
+use Rattle.rc_work.specs.Imports.{AllByRecursion, in_append, Pairs, Call, Spec, plain, Step, Entry, AreLegalFrom, IsLegal, IsNumbered, after_steps, own, replay, steps_of, AreLegalFrom-append, after_steps-append, steps_of-append, numbered_more}
 use Rattle.std.proofs.lemmas.List.{append-nil, append_assoc}
-use Rattle.rc_tuple.specs.RisingSetLaws.{in_append}
-use Rattle.rc_tuple.specs.Tuple.{Pairs}
-use Rattle.rc_spec.specs.declared.call.Call.{Call}
-use Rattle.rc_spec.specs.declared.spec.Spec.{Spec}
-use Rattle.rc_spec.specs.Plain.{plain}
-use Rattle.rc_rel.specs.declared.entry.Step.{Step}
-use Rattle.rc_rel.specs.declared.entry.Entry.{Entry}
-use Rattle.rc_rel.specs.History.{AreLegalFrom, IsLegal, IsNumbered, after_steps, own, replay, steps_of}
-use Rattle.rc_rel.specs.HistoryLaws.{AreLegalFrom-append, after_steps-append, steps_of-append}
-use Rattle.rc_rel.specs.OwnLaws.{numbered_more}
 use Rattle.rc_work.specs.declared.work.Turn.{Turn}
 use Rattle.rc_work.specs.Made.{GoesOn, HasPassesBelow, HasTurnsBelow, entry_after, plain_steps}
 use Rattle.rc_work.specs.Runs.{MakesRounds, thread_turns, turns_of}

@@ -1,10 +1,6 @@
 -- How the code's answers give what the definitions give, where calls may bring their own operation.
 use Rattle.std.specs.Prelude.{◌≡◌, ℕ, ◌≤◌, Bool, false, List, length, Result, Ok, Err}
-use Rattle.rc_reader.specs.Answers.{FailsLine}
-use Rattle.rc_reader.specs.declared.refusal.LineFault.{LineFault}
-use Rattle.rc_reader.specs.declared.refusal.LineRule.{LineRule}
-use Rattle.rc_spec.specs.InRange.{IsInRange}
-use Rattle.rc_spec.specs.declared.spec.Spec.{Spec}
+use Rattle.rc_work.specs.Imports.{FailsLine, LineFault, LineRule, IsInRange, Spec}
 use Rattle.rc_work.specs.declared.shapes.OpenDraft.{OpenDraft}
 use Rattle.rc_work.specs.OpenGrammar.{after_open}
 

@@ -2,13 +2,7 @@
 -- these operations, or the first broken line rule with its line.
 use Rattle.std.specs.Prelude.{ℕ, Bool, false, nat_le, if◌then◌else◌, List, [], Option, Some, None, Result, Ok, Err}
 use Rattle.rc_text.specs.Language as language
-use Rattle.rc_text.specs.Language.{Language}
-use Rattle.rc_text.specs.Lines.{ContentLine, TextPlace, content_from, past_end_of}
-use Rattle.rc_text.specs.Words.{WordText}
-use Rattle.rc_spec.specs.declared.spec.Spec.{Spec}
-use Rattle.rc_reader.specs.Grammar.{Broken}
-use Rattle.rc_reader.specs.declared.refusal.LineRule.{LineRule}
-use Rattle.rc_reader.specs.declared.refusal.LineRule.TheVariants.{S2, S8}
+use Rattle.rc_work.specs.Imports.{Language, ContentLine, TextPlace, content_from, past_end_of, WordText, Spec, Broken, LineRule, S2, S8}
 use Rattle.rc_work.specs.declared.also.Also.TheVariants.{Nothing}
 use Rattle.rc_work.specs.declared.draft.Draft.{Draft}
 use Rattle.rc_work.specs.declared.open_work.OpenWork.{OpenWork}

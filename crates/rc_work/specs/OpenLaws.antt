@@ -2,30 +2,11 @@
 -- shapes.
 use Rattle.std.proofs.Common.{◌≡◌, ℕ, suc, ◌+◌, ◌≤◌, Bool, true, false, not, cond, List, [], ◌∷◌, ◌++◌, length, Option, Some, None, Result, Ok, Err, refl, sym, ap, ◌∙◌, subst, arith}
 use Rattle.std.specs.Prelude.{◌||◌, ◌&&◌, ◌==◌, is_none, nat_le, unwrap_or}
-use Rattle.std.specs.List.{AllByRecursion, list_any, position_from, slice_get}
-use Rattle.std.specs.Str.{bytes_eq}
+use Rattle.rc_work.specs.Imports.{AllByRecursion, list_any, position_from, slice_get, bytes_eq, read_keeps, ContentLine, WordText, AreDistinct, AreBelow, HasOutsAmong, IsOpAmong, column_names, range_columns, Column, Op, OpKind, Query, Insert, Remove, Update, Spec, Broken, apart_from_test, distinct_append, distinct_from_test, numbers_of-below, columns_named, repeats, share, LineRule, S3, S4, S5, S6, S7, S8, W2, W3, W4, u64_of}
 use Rattle.std.proofs.lemmas.Bool.{and_parts, or_parts, leb-false, not-false, eqb-true, eqb-false}
 use Rattle.std.proofs.lemmas.List.{length-append, length-map}
 use Rattle.std.proofs.lemmas.Option.{slice_get_within}
 use Rattle.std.proofs.lemmas.Slice.Eq.{bytes_eq-Decides}
-use Rattle.rc_text.specs.LanguageLaws.{read_keeps}
-use Rattle.rc_text.specs.Lines.{ContentLine}
-use Rattle.rc_text.specs.Words.{WordText}
-use Rattle.rc_tuple.specs.RisingSet.{AreDistinct}
-use Rattle.rc_spec.specs.InRange.{AreBelow, HasOutsAmong, IsOpAmong}
-use Rattle.rc_spec.specs.Names.{column_names}
-use Rattle.rc_spec.specs.Ranges.{range_columns}
-use Rattle.rc_spec.specs.declared.items.Column.{Column}
-use Rattle.rc_spec.specs.declared.items.Op.{Op}
-use Rattle.rc_spec.specs.declared.items.OpKind.{OpKind}
-use Rattle.rc_spec.specs.declared.items.OpKind.TheVariants.{Query, Insert, Remove, Update}
-use Rattle.rc_spec.specs.declared.spec.Spec.{Spec}
-use Rattle.rc_reader.specs.Grammar.{Broken}
-use Rattle.rc_reader.specs.MembersLaws.{apart_from_test, distinct_append, distinct_from_test}
-use Rattle.rc_reader.specs.NamesLaws.{numbers_of-below}
-use Rattle.rc_reader.specs.Rules.{columns_named, repeats, share}
-use Rattle.rc_reader.specs.declared.refusal.LineRule.{LineRule}
-use Rattle.rc_reader.specs.declared.refusal.LineRule.TheVariants.{S3, S4, S5, S6, S7, S8, W2, W3, W4}
 use Rattle.rc_work.specs.declared.also.Also.TheVariants.{Nothing}
 use Rattle.rc_work.specs.declared.draft.Draft.{Draft}
 use Rattle.rc_work.specs.declared.shapes.OpenDraft.{OpenDraft}
@@ -46,7 +27,6 @@ use Rattle.rc_work.specs.Shapes.{with_operations, IsShapeOf}
 use Rattle.rc_work.specs.ShapesLaws.{IsDraft-over, IsRawCall-over, has_wrong_kind-over, with_both, written_columns_at-further}
 use Rattle.rc_work.specs.UnfilledGroups.{count_in}
 use Rattle.rc_work.specs.WorkGrammar.{Headed, broken_at, headed}
-use Rattle.rc_text.specs.Numbers.{u64_of}
 
 same_read : (x y : OpenDraft) → ok x ≡ ok y → x ≡ y
 same_read x y e = cc

@@ -1,12 +1,6 @@
 -- What content lines give up to the `end` of a workload, with the lines behind it left open.
-use Rattle.std.specs.Prelude.{ℕ, List, Result, Ok, Err}
+use Rattle.rc_work.specs.Imports.{ℕ, List, Result, Ok, Err, Language, ContentLine, TextPlace, content_from, past_end_of, Spec, Broken, LineRule, S8}
 use Rattle.rc_text.specs.Language as language
-use Rattle.rc_text.specs.Language.{Language}
-use Rattle.rc_text.specs.Lines.{ContentLine, TextPlace, content_from, past_end_of}
-use Rattle.rc_spec.specs.declared.spec.Spec.{Spec}
-use Rattle.rc_reader.specs.Grammar.{Broken}
-use Rattle.rc_reader.specs.declared.refusal.LineRule.{LineRule}
-use Rattle.rc_reader.specs.declared.refusal.LineRule.TheVariants.{S8}
 use Rattle.rc_work.specs.declared.also.Also.{Also}
 use Rattle.rc_work.specs.declared.draft.Draft.{Draft}
 use Rattle.rc_work.specs.declared.work.Work.{Work}

@@ -2,11 +2,7 @@
 use Rattle.std.proofs.Common.{◌≡◌, ℕ, true, false, List, [], ◌∷◌, ◌++◌, Result, Ok, Err, refl, sym, ap, ◌∙◌, subst, inl, inr}
 use Rattle.rc_text.specs.Language as language
 use Rattle.rc_text.specs.LanguageLaws as laws
-use Rattle.rc_text.specs.Lines.{ContentLine, TextPlace, content_from, past_end_of}
-use Rattle.rc_spec.specs.declared.spec.Spec.{Spec}
-use Rattle.rc_reader.specs.Grammar.{Broken}
-use Rattle.rc_reader.specs.declared.refusal.LineRule.{LineRule}
-use Rattle.rc_reader.specs.declared.refusal.LineRule.TheVariants.{S8}
+use Rattle.rc_work.specs.Imports.{ContentLine, TextPlace, content_from, past_end_of, Spec, Broken, LineRule, S8}
 use Rattle.rc_work.specs.declared.also.Also.{Also}
 use Rattle.rc_work.specs.declared.draft.Draft.{Draft}
 use Rattle.rc_work.specs.WorkGrammar.{after_bytes, broken_at, draft_of, drafts, headed_by, reading_all, reading_behind, reading_from, threads_of}

@@ -1,10 +1,6 @@
 -- Texts that are cut: where a whole text has the `d` of its last `end`, and that what ends before it is refused.
 use Rattle.std.specs.Prelude.{◌≡◌, ℕ, ◌+◌, ◌≤◌, true, false, List, [], ◌∷◌, ◌++◌, length, take, sum_by, Some, Ok, Err, codes}
-use Rattle.std.specs.List.{AllByRecursion, list_all}
-use Rattle.rc_text.specs.Bytes.{is_blank}
-use Rattle.rc_text.specs.Lines.{lines_of, is_content, bytes_of_line}
-use Rattle.rc_text.specs.Words.{plain_text}
-use Rattle.rc_reader.specs.Grammar.{Broken}
+use Rattle.rc_work.specs.Imports.{AllByRecursion, list_all, is_blank, lines_of, is_content, bytes_of_line, plain_text, Broken}
 use Rattle.rc_work.specs.declared.also.Also.{Also}
 use Rattle.rc_work.specs.LineForms.{words_read}
 use Rattle.rc_work.specs.WholeText.{Whole, text_reading}

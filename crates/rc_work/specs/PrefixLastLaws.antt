@@ -1,16 +1,8 @@
 -- The last content line of a text that gives a workload is `end`.
 use Rattle.std.proofs.Common.{◌≡◌, ℕ, ◌+◌, Bool, true, false, cond, eqb, List, [], ◌∷◌, ◌++◌, length, Some, Result, Ok, Err, codes, refl, ap, sym, ◌∙◌, append_assoc}
-use Rattle.std.specs.Prelude.{sum_by}
-use Rattle.rc_text.specs.Lines.{lines_of, past_end_of, without_last, bytes_of_line, is_content, ContentLine, content_among, start_of, content_from}
-use Rattle.rc_spec.specs.declared.spec.Spec.{Spec}
-use Rattle.rc_reader.specs.Grammar.{spec_reading}
+use Rattle.rc_work.specs.Imports.{sum_by, lines_of, past_end_of, without_last, bytes_of_line, is_content, ContentLine, content_among, start_of, content_from, Spec, spec_reading, LineRule, S8, list_all, is_blank, plain_text}
 use Rattle.rc_work.specs.declared.also.Also.{Also}
 use Rattle.rc_work.specs.declared.draft.Draft.{Draft}
-use Rattle.rc_reader.specs.declared.refusal.LineRule.{LineRule}
-use Rattle.rc_reader.specs.declared.refusal.LineRule.TheVariants.{S8}
-use Rattle.std.specs.List.{list_all}
-use Rattle.rc_text.specs.Bytes.{is_blank}
-use Rattle.rc_text.specs.Words.{plain_text}
 use Rattle.rc_work.specs.LineForms.{words_read}
 use Rattle.rc_work.specs.WorkGrammar.{broken_at, reading_from, reading_all, reading_behind, headed_by, threads_of, draft_of}
 use Rattle.rc_work.specs.Prefix.{AreNoContent, IsLastLetter, LastLetterIsThere}

@@ -1,20 +1,10 @@
 -- A text that gives a specification and a workload gives none where it is cut.
 use Rattle.std.proofs.Common.{◌≡◌, ◌⊎◌, ℕ, suc, ◌+◌, ◌-◌, ◌≤◌, true, false, not, cond, eqb, List, [], ◌∷◌, ◌++◌, length, take, drop, Option, Some, None, Result, Ok, Err, codes, refl, ap, sym, ◌∙◌, subst, inl, inr, append_assoc, arith}
-use Rattle.std.specs.Prelude.{sum_by}
-use Rattle.std.specs.List.{list_all}
+use Rattle.rc_work.specs.Imports.{sum_by, list_all, is_blank, lines_of, past_end_of, without_last, bytes_of_line, is_content, ContentLine, content_among, start_of, content_from, IsLineStart, lines_from_is, Spec, empty, LineRule, S1, S8, After, Broken, Reading, header_version, spec_reading, Version}
 use Rattle.std.proofs.lemmas.Bool.{eqb-true, and_parts, or_cases}
 use Rattle.std.proofs.lemmas.List.Sums.{sum_by-cons}
-use Rattle.rc_text.specs.Bytes.{is_blank}
 use Rattle.rc_text.specs.Language as language
-use Rattle.rc_text.specs.Lines.{lines_of, past_end_of, without_last, bytes_of_line, is_content, ContentLine, content_among, start_of, content_from, IsLineStart}
-use Rattle.rc_text.specs.LinesLaws.{lines_from_is}
-use Rattle.rc_spec.specs.declared.spec.Spec.{Spec}
-use Rattle.rc_spec.specs.Spec.{empty}
-use Rattle.rc_reader.specs.declared.refusal.LineRule.{LineRule}
-use Rattle.rc_reader.specs.declared.refusal.LineRule.TheVariants.{S1, S8}
 use Rattle.rc_reader.specs.Grammar as spec
-use Rattle.rc_reader.specs.Grammar.{After, Broken, Reading, header_version, spec_reading}
-use Rattle.rc_reader.specs.declared.version.Version.{Version}
 use Rattle.rc_work.specs.declared.also.Also.{Also}
 use Rattle.rc_work.specs.declared.draft.Draft.{Draft}
 use Rattle.rc_work.specs.WorkGrammar as work

@@ -2,17 +2,10 @@
 use Rattle.std.proofs.Common.{◌≡◌, ℕ, Bool, true, false, not, cond, eqb, List, [], ◌∷◌, ◌++◌, drop, Option, Some, None, Ok, Err, codes, refl, ap, sym, ◌∙◌, subst, one-add}
 use Rattle.std.specs.Prelude.{◌&&◌}
 use Rattle.std.proofs.Math.Bool.{and-false}
-use Rattle.std.specs.Str.{bytes_eq}
-use Rattle.std.specs.List.{list_all, before_first, position_or_len}
+use Rattle.rc_work.specs.Imports.{bytes_eq, list_all, before_first, position_or_len, is_blank, is_text_byte, without_blanks, WordText, plain_text, quoted_text, Found, word_at, found_then, words_of, HasWord, ComesNext, words_of-step, found_comes, is_number, BadByte, Spec}
 use Rattle.std.proofs.lemmas.Bool.{eqb-true, and_parts}
 use Rattle.std.proofs.lemmas.Slice.Eq.{bytes_eq-Decides}
-use Rattle.rc_text.specs.Bytes.{is_blank, is_text_byte, without_blanks}
-use Rattle.rc_text.specs.Words.{WordText, plain_text, quoted_text, Found, word_at, next_word_of, found_then, words_of, HasWord, ComesNext}
-use Rattle.rc_text.specs.WordsLaws.{words_of-step}
-use Rattle.rc_text.specs.NextWordLaws.{found_comes}
-use Rattle.rc_text.specs.Numbers.{is_number}
-use Rattle.rc_text.specs.declared.words.WordFault.TheVariants.{BadByte}
-use Rattle.rc_spec.specs.declared.spec.Spec.{Spec}
+use Rattle.rc_text.specs.Words.{next_word_of}
 use Rattle.rc_work.specs.declared.also.Also.{Also}
 use Rattle.rc_work.specs.declared.also.Also.TheVariants.{Nothing, Groups}
 use Rattle.rc_work.specs.declared.raw.RawCall.{RawCall}

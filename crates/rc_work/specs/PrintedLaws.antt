@@ -1,13 +1,8 @@
 -- Texts are printed as they were written.
 use Rattle.std.proofs.Common.{◌≡◌, ℕ, List, [], Option, Some, None, get_or, refl, ap}
-use Rattle.std.specs.List.{slice_get}
-use Rattle.std.specs.Option.{unwrap_or}
+use Rattle.rc_work.specs.Imports.{slice_get, unwrap_or, In, quoted, rank_of, slice_get-rank_of, rank_of-within, not_in-rank_of}
 use Rattle.std.proofs.lemmas.Option.{slice_get-get_or}
-use Rattle.rc_tuple.specs.RisingSet.{In}
-use Rattle.rc_text.specs.Words.{quoted}
 use Rattle.rc_spec.specs.declared.items.ColKind.TheVariants as kinds
-use Rattle.rc_values.specs.Ranks.{rank_of}
-use Rattle.rc_values.specs.RanksLaws.{slice_get-rank_of, rank_of-within, not_in-rank_of}
 use Rattle.rc_work.specs.declared.raw.RawValue.TheVariants as raw
 use Rattle.rc_work.specs.Printed.{value_text}
 use Rattle.rc_work.specs.Ranking.{ranked_value}

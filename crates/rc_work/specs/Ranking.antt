@@ -1,11 +1,6 @@
 -- The workload that a draft gives: a text is its rank among the texts of the whole workload.
 use Rattle.std.specs.Prelude.{ℕ, List, [], ◌∷◌, map, unwrap_or, Result, Ok, Err}
-use Rattle.std.specs.List.{flat_map}
-use Rattle.rc_text.specs.Lines.{TextPlace, content_from, past_end_of}
-use Rattle.rc_spec.specs.declared.call.Call.{Call}
-use Rattle.rc_spec.specs.declared.spec.Spec.{Spec}
-use Rattle.rc_values.specs.Ranks.{texts_of, rank_of}
-use Rattle.rc_reader.specs.Grammar.{Broken}
+use Rattle.rc_work.specs.Imports.{flat_map, TextPlace, content_from, past_end_of, Call, Spec, texts_of, rank_of, Broken}
 use Rattle.rc_work.specs.declared.raw.RawValue.{RawValue}
 use Rattle.rc_work.specs.declared.raw.RawValue.TheVariants as raw
 use Rattle.rc_work.specs.declared.also.Also.{Also}

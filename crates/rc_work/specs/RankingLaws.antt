@@ -1,22 +1,12 @@
 -- Laws of the workload that a draft gives.
 use Rattle.std.proofs.Common.{◌≡◌, ℕ, ◌<◌, ◌≤◌, false, List, [], ◌∷◌, ◌++◌, length, map, Option, Some, None, refl, sym, ap, ◌∙◌, subst, inl, inr, arith}
-use Rattle.std.specs.Prelude.{sum_by, unwrap_or, IsSome, Result, Ok, Err}
-use Rattle.std.specs.List.{AllByRecursion, flat_map, zip}
+use Rattle.rc_work.specs.Imports.{sum_by, IsSome, Result, Ok, Err, AllByRecursion, flat_map, zip, In, append_in_left, append_in_right, TextPlace, content_from, past_end_of, Fits, IsWellNamed, ColKind, Spec, Broken, texts_of, rank_of, slice_get-rank_of, known-texts_of}
+use Rattle.std.specs.Prelude.{unwrap_or}
 use Rattle.std.proofs.lemmas.Bool.{or_parts, false≢true}
 use Rattle.std.proofs.lemmas.List.{length-map}
 use Rattle.std.proofs.lemmas.List.Sums.{sum_by-cons}
 use Rattle.std.proofs.lemmas.Option.{slice_get_within}
-use Rattle.rc_tuple.specs.RisingSet.{In}
-use Rattle.rc_tuple.specs.RisingSetLaws.{append_in_left, append_in_right}
-use Rattle.rc_text.specs.Lines.{TextPlace, content_from, past_end_of}
-use Rattle.rc_spec.specs.Calls.{Fits}
-use Rattle.rc_spec.specs.Names.{IsWellNamed}
-use Rattle.rc_spec.specs.declared.items.ColKind.{ColKind}
 use Rattle.rc_spec.specs.declared.items.ColKind.TheVariants as kinds
-use Rattle.rc_spec.specs.declared.spec.Spec.{Spec}
-use Rattle.rc_reader.specs.Grammar.{Broken}
-use Rattle.rc_values.specs.Ranks.{texts_of, rank_of}
-use Rattle.rc_values.specs.RanksLaws.{slice_get-rank_of, known-texts_of}
 use Rattle.rc_work.specs.declared.also.Also.TheVariants.{Nothing}
 use Rattle.rc_work.specs.declared.raw.RawValue.{RawValue}
 use Rattle.rc_work.specs.declared.raw.RawValue.TheVariants as raw

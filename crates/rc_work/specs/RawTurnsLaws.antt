@@ -1,7 +1,6 @@
 -- Laws of rounds with one more turn.
 use Rattle.std.proofs.Common.{◌≡◌, ℕ, suc, ◌+◌, ◌<◌, List, [], ◌∷◌, ◌++◌, length, refl, ap, arith}
-use Rattle.std.specs.Prelude.{sum_by}
-use Rattle.std.specs.List.{AllByRecursion}
+use Rattle.rc_work.specs.Imports.{sum_by, AllByRecursion}
 use Rattle.std.proofs.lemmas.List.Sums.{sum_by-append, sum_by-cons}
 use Rattle.rc_work.specs.declared.raw.RawTurn.{RawTurn}
 use Rattle.rc_work.specs.RawTurns.{count_raw, onto_last}

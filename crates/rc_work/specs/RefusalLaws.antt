@@ -1,20 +1,8 @@
 -- A workload is refused by its own rules alone.
 use Rattle.std.proofs.Common.{◌≡◌, ℕ, Bool, true, false, cond, List, [], ◌∷◌, codes, Option, Some, None, Result, Ok, Err, refl, subst, inl, inr}
 use Rattle.std.specs.Prelude.{◌&&◌, nat_le}
-use Rattle.std.specs.Str.{bytes_eq}
-use Rattle.rc_text.specs.Language.{LinesMean}
-use Rattle.rc_text.specs.LanguageLaws.{means-reading, taken_keeps}
-use Rattle.rc_text.specs.Lines.{ContentLine}
-use Rattle.rc_text.specs.Words.{WordText, plain_text, quoted_text}
-use Rattle.rc_text.specs.Numbers.{u64_of}
-use Rattle.rc_text.specs.declared.numbers.NumFault.{NumFault}
+use Rattle.rc_work.specs.Imports.{bytes_eq, LinesMean, means-reading, taken_keeps, ContentLine, WordText, plain_text, quoted_text, u64_of, NumFault, Spec, Broken, Refuses, LineRule, S1, S2, S5, S6, S7, S8, W1, W2, W3, W5, ReadRefusal}
 use Rattle.rc_text.specs.declared.numbers.NumFault.TheVariants as faults
-use Rattle.rc_spec.specs.declared.spec.Spec.{Spec}
-use Rattle.rc_reader.specs.Grammar.{Broken}
-use Rattle.rc_reader.specs.Answers.{Refuses}
-use Rattle.rc_reader.specs.declared.refusal.LineRule.{LineRule}
-use Rattle.rc_reader.specs.declared.refusal.LineRule.TheVariants.{S1, S2, S5, S6, S7, S8, W1, W2, W3, W5}
-use Rattle.rc_reader.specs.declared.refusal.ReadRefusal.{ReadRefusal}
 use Rattle.rc_reader.specs.declared.refusal.ReadRefusal.TheVariants as refusals
 use Rattle.rc_work.specs.declared.also.Also.{Also}
 use Rattle.rc_work.specs.declared.also.Also.TheVariants.{Nothing, Groups}

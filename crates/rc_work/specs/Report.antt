@@ -1,10 +1,6 @@
 -- The report of a run: its lines, and the text that they make.
 use Rattle.std.specs.Prelude.{ℕ, nat_le, if◌then◌else◌, List, [], ◌∷◌, ◌++◌, length, map, decimal, codes}
-use Rattle.std.specs.List.{flat_map, enumerate_from}
-use Rattle.rc_tuple.specs.Tuple.{Pairs}
-use Rattle.rc_spec.specs.declared.spec.Spec.{Spec}
-use Rattle.rc_rel.specs.declared.entry.Step.{Step}
-use Rattle.rc_rel.specs.declared.entry.Entry.{Entry}
+use Rattle.rc_work.specs.Imports.{flat_map, enumerate_from, Pairs, Spec, Step, Entry}
 use Rattle.rc_work.specs.Printed.{words_text, row_text, step_words}
 
 -- PLACE THREAD OP VALUES -> REPLY

@@ -1,15 +1,9 @@
 -- Where the lines of a report stand.
 use Rattle.std.proofs.Common.{◌≡◌, ℕ, zero, suc, ◌+◌, ◌-◌, ◌<◌, ◌≤◌, List, [], ◌∷◌, ◌++◌, length, map, Some, refl, sym, ap, ◌∙◌, arith}
-use Rattle.std.specs.Prelude.{codes}
-use Rattle.std.specs.List.{flat_map, slice_get, enumerate_from}
-use Rattle.std.specs.Option.{option_map}
+use Rattle.rc_work.specs.Imports.{codes, flat_map, slice_get, enumerate_from, option_map, Pairs, printed_lines, Spec, Entry}
 use Rattle.std.proofs.lemmas.Option.{slice_get-map}
 use Rattle.std.proofs.lemmas.List.{length-map, length-append}
 use Rattle.std.proofs.lemmas.List.Concat.{flat_map-append}
-use Rattle.rc_tuple.specs.Tuple.{Pairs}
-use Rattle.rc_text.specs.Lines.{printed_lines}
-use Rattle.rc_spec.specs.declared.spec.Spec.{Spec}
-use Rattle.rc_rel.specs.declared.entry.Entry.{Entry}
 use Rattle.rc_work.specs.Printed.{row_text}
 use Rattle.rc_work.specs.Report.{entry_lines, journal_lines, count_line, final_lines, report, entry_parts, final_parts, parts}
 

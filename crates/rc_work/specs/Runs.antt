@@ -1,11 +1,6 @@
 -- Runs of a workload: the histories in which its calls may be made.
 use Rattle.std.specs.Prelude.{◌≡◌, ℕ, ◌<◌, ◌==◌, List, [], ◌∷◌, ◌++◌, filter, map, length}
-use Rattle.std.specs.List.{flat_map}
-use Rattle.rc_tuple.specs.RisingSet.{In}
-use Rattle.rc_spec.specs.declared.spec.Spec.{Spec}
-use Rattle.rc_spec.specs.declared.call.Call.{Call}
-use Rattle.rc_rel.specs.declared.entry.Entry.{Entry}
-use Rattle.rc_rel.specs.History.{IsLegal, IsNumbered, own}
+use Rattle.rc_work.specs.Imports.{flat_map, In, Spec, Call, Entry, IsLegal, IsNumbered, own}
 use Rattle.rc_work.specs.declared.work.Turn.{Turn}
 use Rattle.rc_work.specs.declared.work.Work.{Work}
 

@@ -1,10 +1,7 @@
 -- The forms of a line that brings its own operation, from its words: a thread, a sign, columns, `=`, values, and of a query `->`
 -- and columns again.
 use Rattle.std.specs.Prelude.{ℕ, Bool, true, false, if◌then◌else◌, List, [], ◌∷◌, drop, Option, Some, None, codes}
-use Rattle.std.specs.List.{list_all, list_any, before_first, filter_map, position_or_len}
-use Rattle.std.specs.Str.{bytes_eq}
-use Rattle.rc_text.specs.Words.{WordText, plain_text, quoted_text}
-use Rattle.rc_text.specs.Numbers.{is_number}
+use Rattle.rc_work.specs.Imports.{list_all, list_any, before_first, filter_map, position_or_len, bytes_eq, WordText, plain_text, quoted_text, is_number}
 use Rattle.rc_work.specs.declared.shape_forms.Kind.{Kind}
 use Rattle.rc_work.specs.declared.shape_forms.Kind.TheVariants as kinds
 use Rattle.rc_work.specs.declared.shape_forms.Parts.{Parts}

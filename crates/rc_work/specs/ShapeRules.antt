@@ -1,21 +1,12 @@
 -- The rules that a line may break which brings its own operation, and what it adds where it breaks none.
 use Rattle.std.specs.Prelude.{ℕ, suc, Bool, true, false, not, ◌+◌, ◌&&◌, ◌||◌, ◌==◌, nat_le, if◌then◌else◌, List, [], ◌∷◌, ◌++◌, length, Option, Some, None, is_none, unwrap_or, Result, Ok, Err, codes, decimal}
-use Rattle.std.specs.List.{list_any, position_from}
-use Rattle.std.specs.Str.{bytes_eq}
-use Rattle.rc_spec.specs.declared.items.Op.{Op}
-use Rattle.rc_spec.specs.declared.items.OpKind.{OpKind}
-use Rattle.rc_spec.specs.declared.items.OpKind.TheVariants.{Query, Insert, Remove, Update}
-use Rattle.rc_spec.specs.declared.spec.Spec.{Spec}
-use Rattle.rc_reader.specs.Rules.{columns_named, repeat_together, lacks}
-use Rattle.rc_reader.specs.declared.refusal.LineRule.{LineRule}
-use Rattle.rc_reader.specs.declared.refusal.LineRule.TheVariants.{S3, S4, S5, S6, S7, S8, W2, W3, W4}
+use Rattle.rc_work.specs.Imports.{list_any, position_from, bytes_eq, Op, OpKind, Query, Insert, Remove, Update, Spec, columns_named, repeat_together, lacks, LineRule, S3, S4, S5, S6, S7, S8, W2, W3, W4, WordText}
 use Rattle.rc_work.specs.declared.shapes.FoundShape.{FoundShape}
 use Rattle.rc_work.specs.declared.shapes.OpenDraft.{OpenDraft}
 use Rattle.rc_work.specs.declared.raw.RawCall.{RawCall}
 use Rattle.rc_work.specs.CallColumns.{written_columns}
 use Rattle.rc_work.specs.Determined.{keeps_rules}
 use Rattle.rc_work.specs.LineRules.{thread_of, is_too_large, raw_values, has_wrong_kind, thread_in}
-use Rattle.rc_text.specs.Words.{WordText}
 use Rattle.rc_work.specs.ShapeForms.{KindText, query_kind, insert_kind, remove_kind, update_kind, ShapeText, plain_words}
 use Rattle.rc_work.specs.UnfilledGroups.{count_in, with_call}
 

@@ -1,11 +1,6 @@
 -- Further operations, and the specification with them behind its own.
 use Rattle.std.specs.Prelude.{◌++◌, List, length}
-use Rattle.rc_tuple.specs.RisingSet.{AreDistinct}
-use Rattle.rc_spec.specs.declared.items.Op.{Op}
-use Rattle.rc_spec.specs.declared.spec.Spec.{Spec}
-use Rattle.rc_spec.specs.InRange.{IsOpAmong}
-use Rattle.rc_spec.specs.Placement.{KeepsO}
-use Rattle.rc_spec.specs.Ranges.{range_columns}
+use Rattle.rc_work.specs.Imports.{AreDistinct, Op, Spec, IsOpAmong, KeepsO, range_columns}
 
 -- the specification with further operations behind its own
 abbrev pub with_operations : Spec → List Op → Spec

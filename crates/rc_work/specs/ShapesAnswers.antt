@@ -1,12 +1,6 @@
 -- How the code's answers give what the definitions give, of a text of shapes.
 use Rattle.std.specs.Prelude.{◌≡◌, ℕ, ◌≤◌, Bool, false, List, length, Result, Ok, Err}
-use Rattle.rc_reader.specs.Answers.{FailsLine}
-use Rattle.rc_reader.specs.declared.refusal.LineFault.{LineFault}
-use Rattle.rc_reader.specs.declared.refusal.LineRule.{LineRule}
-use Rattle.rc_reader.specs.declared.version.Version.{Version}
-use Rattle.rc_spec.specs.InRange.{IsInRange}
-use Rattle.rc_spec.specs.declared.items.Op.{Op}
-use Rattle.rc_spec.specs.declared.spec.Spec.{Spec}
+use Rattle.rc_work.specs.Imports.{FailsLine, LineFault, LineRule, Version, IsInRange, Op, Spec}
 use Rattle.rc_work.specs.ShapesGrammar.{after_shape_line}
 
 -- a line was taken, and the shapes are then `new`

@@ -2,15 +2,7 @@
 -- behind its name.
 use Rattle.std.specs.Prelude.{ℕ, false, not, if◌then◌else◌, List, [], Result, Ok, Err}
 use Rattle.rc_text.specs.Language as language
-use Rattle.rc_text.specs.Language.{Language}
-use Rattle.rc_text.specs.Lines.{ContentLine, content_from, past_end_of, start_of}
-use Rattle.rc_spec.specs.declared.items.Op.{Op}
-use Rattle.rc_spec.specs.declared.spec.Spec.{Spec}
-use Rattle.rc_reader.specs.Grammar.{Broken}
-use Rattle.rc_reader.specs.Unnamed.{unnamed_operation}
-use Rattle.rc_reader.specs.declared.refusal.LineRule.{LineRule}
-use Rattle.rc_reader.specs.declared.refusal.LineRule.TheVariants.{S6, W4}
-use Rattle.rc_reader.specs.declared.version.Version.{Version}
+use Rattle.rc_work.specs.Imports.{Language, ContentLine, content_from, past_end_of, start_of, Op, Spec, Broken, unnamed_operation, LineRule, S6, W4, Version}
 use Rattle.rc_work.specs.Determined.{keeps_rules}
 use Rattle.rc_work.specs.ShapeRules.{is_one_shape_more, shape_place, with_shape}
 

@@ -1,19 +1,9 @@
 -- Laws of a text of shapes: what it gives are shapes of the specification, and what its lines mean.
 use Rattle.std.proofs.Common.{◌≡◌, ◌↔◌, ℕ, ◌≤◌, false, not, cond, List, [], ◌∷◌, length, Option, Some, None, Result, Ok, Err, refl, subst, arith}
-use Rattle.std.specs.List.{AllByRecursion}
+use Rattle.rc_work.specs.Imports.{AllByRecursion, read_keeps, ContentLine, content_from, past_end_of, start_of, Op, Spec, Broken, IsOverColumns, unnamed_operation, unnamed_over, LineRule, S6, W4, Version}
 use Rattle.std.proofs.lemmas.Bool.{leb-false, not-false}
 use Rattle.std.proofs.lemmas.List.{length-append}
 use Rattle.rc_text.specs.LanguageLaws as laws
-use Rattle.rc_text.specs.LanguageLaws.{read_keeps}
-use Rattle.rc_text.specs.Lines.{ContentLine, content_from, past_end_of, start_of}
-use Rattle.rc_spec.specs.declared.items.Op.{Op}
-use Rattle.rc_spec.specs.declared.spec.Spec.{Spec}
-use Rattle.rc_reader.specs.Grammar.{Broken}
-use Rattle.rc_reader.specs.Unnamed.{IsOverColumns, unnamed_operation}
-use Rattle.rc_reader.specs.UnnamedLaws.{unnamed_over}
-use Rattle.rc_reader.specs.declared.refusal.LineRule.{LineRule}
-use Rattle.rc_reader.specs.declared.refusal.LineRule.TheVariants.{S6, W4}
-use Rattle.rc_reader.specs.declared.version.Version.{Version}
 use Rattle.rc_work.specs.Determined.{keeps_rules}
 use Rattle.rc_work.specs.DeterminedLaws.{operation_test_is_exact}
 use Rattle.rc_work.specs.LineRulesLaws.{ok, unrefused}

@@ -1,18 +1,8 @@
 -- Laws of a specification with further operations: what holds of its own operations' calls goes on to hold.
 use Rattle.std.proofs.Common.{◌≡◌, ℕ, zero, suc, ◌+◌, ◌<◌, inl, inr, List, [], ◌∷◌, ◌++◌, length, Option, Some, None, refl, sym, ap, ◌∙◌, subst, arith}
 use Rattle.std.specs.Prelude.{IfSome, ◌||◌}
-use Rattle.std.specs.List.{AllByRecursion, slice_get}
-use Rattle.std.specs.Option.{option_map_or}
+use Rattle.rc_work.specs.Imports.{AllByRecursion, slice_get, option_map_or, In, in_append, value_columns, IsInRange, IsWellNamed, Op, OpKind, Query, Insert, Remove, Update, Spec}
 use Rattle.std.proofs.lemmas.List.{append-nil, length-append}
-use Rattle.rc_tuple.specs.RisingSet.{In}
-use Rattle.rc_tuple.specs.RisingSetLaws.{in_append}
-use Rattle.rc_spec.specs.Calls.{value_columns}
-use Rattle.rc_spec.specs.InRange.{IsInRange}
-use Rattle.rc_spec.specs.Names.{IsWellNamed}
-use Rattle.rc_spec.specs.declared.items.Op.{Op}
-use Rattle.rc_spec.specs.declared.items.OpKind.{OpKind}
-use Rattle.rc_spec.specs.declared.items.OpKind.TheVariants.{Query, Insert, Remove, Update}
-use Rattle.rc_spec.specs.declared.spec.Spec.{Spec}
 use Rattle.rc_work.specs.declared.draft.Draft.{Draft}
 use Rattle.rc_work.specs.declared.draft.UnfilledGroup.{UnfilledGroup}
 use Rattle.rc_work.specs.declared.raw.RawCall.{RawCall}

@@ -1,8 +1,6 @@
 -- What a whole text gives: a specification, and the workload behind it.
 use Rattle.std.specs.Prelude.{ℕ, ◌+◌, List, Result, Ok, Err}
-use Rattle.rc_text.specs.Lines.{TextPlace}
-use Rattle.rc_spec.specs.declared.spec.Spec.{Spec}
-use Rattle.rc_reader.specs.Grammar.{Broken, Reading, spec_reading}
+use Rattle.rc_work.specs.Imports.{TextPlace, Spec, Broken, Reading, spec_reading}
 use Rattle.rc_work.specs.declared.also.Also.{Also}
 use Rattle.rc_work.specs.declared.work.Work.{Work}
 use Rattle.rc_work.specs.Ranking.{work_reading}

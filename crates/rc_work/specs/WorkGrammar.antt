@@ -1,17 +1,8 @@
 -- What the content lines behind a specification give: a draft of a workload, or the first broken line rule with its line.
 use Rattle.std.specs.Prelude.{ℕ, false, ◌&&◌, nat_le, if◌then◌else◌, List, [], ◌∷◌, Option, Some, None, Result, Ok, Err, codes}
-use Rattle.std.specs.Str.{bytes_eq}
+use Rattle.rc_work.specs.Imports.{bytes_eq, Language, ContentLine, WordText, plain_text, u64_of, NumFault, Spec, Broken, LineRule, S1, S2, S5, S8}
 use Rattle.rc_text.specs.Language as language
-use Rattle.rc_text.specs.Language.{Language}
-use Rattle.rc_text.specs.Lines.{ContentLine}
-use Rattle.rc_text.specs.Words.{WordText, plain_text}
-use Rattle.rc_text.specs.Numbers.{u64_of}
-use Rattle.rc_text.specs.declared.numbers.NumFault.{NumFault}
 use Rattle.rc_text.specs.declared.numbers.NumFault.TheVariants as faults
-use Rattle.rc_spec.specs.declared.spec.Spec.{Spec}
-use Rattle.rc_reader.specs.Grammar.{Broken}
-use Rattle.rc_reader.specs.declared.refusal.LineRule.{LineRule}
-use Rattle.rc_reader.specs.declared.refusal.LineRule.TheVariants.{S1, S2, S5, S8}
 use Rattle.rc_work.specs.declared.also.Also.{Also}
 use Rattle.rc_work.specs.declared.draft.Draft.{Draft}
 use Rattle.rc_work.specs.LineForms.{FormText, words_read, form_of}

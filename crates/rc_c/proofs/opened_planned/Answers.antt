@@ -1,7 +1,5 @@
 use Rattle.std.proofs.Common.{◌≡◌, ◌∙◌, ℕ, [], take, refl, sym, ap, subst, arith}
-use Rattle.rc_embed.specs.declared.fault.OpenFault.TheVariants.{Memory}
-use Rattle.rc_embed.specs.OpenFrames.{IsOpenedWithBy}
-use Rattle.rc_embed.specs.Opened.{OpenSeen}
+use Rattle.rc_c.proofs.Imports.{Memory, IsOpenedWithBy, OpenSeen}
 use Rattle.rc_c.proofs.opened_planned.Goals as goal
 
 pub returns-in-Ok-new-clause-opened : goal.returns-in-Ok-new-clause-opened

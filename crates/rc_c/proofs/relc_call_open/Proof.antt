@@ -1,9 +1,8 @@
 -- `relc_call_open` lends the session and the frame to `call_open_on` for the call, and has both back after it.
 use Rattle.std.proofs.Common.{ℕ, [], ◌∷◌, ◌++◌, refl, w32, MutBor}
-use Rattle.std.proofs.raw_atomic.Walks.{proved}
+use Rattle.rc_c.proofs.Imports.{proved, AnswersCallOpen, SessionSeen, the_row, Frame}
 use base.Fraction.{full_share}
 use base.Logic.{id⊢}
-use Rattle.rc_embed.specs.OpenGroupFrames.{AnswersCallOpen}
 use base.Fml.{fex, fsep, ftrue, flft, flent}
 use mir.Syntax.{named}
 use contract.Running.{tables}
@@ -30,9 +29,6 @@ use denote.Triple.Clauses.{lasts}
 use denote.Triple.Spec.{triple_of}
 use denote.Triple.Walked.{Stays, walk_of, stay_dropped, Goes-dropped, stay_ref, Goes-ref, ends_at}
 use denote.Triple.Table.{framed}
-use Rattle.rc_embed.specs.Session.{SessionSeen}
-use Rattle.rc_embed.specs.contracts.session.Session.{the_row}
-use Rattle.rc_embed.specs.declared.frame.Frame.{Frame}
 use Rattle.rc_embed.specs.contracts.frame.Frame as frame
 use Rattle.rc_c.specs.contracts.relc_call_open as f
 use Rattle.rc_c.proofs.relc_call_open.Statement.{statement}

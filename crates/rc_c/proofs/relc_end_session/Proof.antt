@@ -1,6 +1,6 @@
 -- `relc_end_session` reads the session out of its memory, lets it go, and leaves the room.
 use Rattle.std.proofs.Common.{ℕ, List, [], ◌∷◌, refl, ap}
-use Rattle.std.proofs.raw_atomic.Walks.{proved}
+use Rattle.rc_c.proofs.Imports.{proved, the_row}
 use base.Fraction.{full_share}
 use base.Logic.{SProp, ent, id⊢, never_e, fst∗, via, never}
 use seplogic.Ra.Ura.{Ura}
@@ -25,7 +25,6 @@ use denote.Triple.Entry.{on_entry}
 use denote.Triple.Spec.{triple_of}
 use denote.Triple.Walked.{Stays, walk_of, stay_dropped, Goes-dropped, ends_at}
 use denote.Triple.Table.{framed}
-use Rattle.rc_embed.specs.contracts.session.Session.{the_row}
 use Rattle.rc_c.specs.contracts.relc_end_session as f
 use Rattle.rc_c.proofs.relc_end_session.Statement.{statement}
 use Rattle.rc_c.proofs.relc_end_session.Code as code

@@ -1,7 +1,7 @@
 -- `relc_open` passes the frame on to `opened`. The store is lent for good: it is taken out of its loan, whose lifetime never ends, and its pointer
 -- is handed out.
 use Rattle.std.proofs.Common.{◌≡◌, ◌∙◌, ℕ, List, [], ◌∷◌, ◌++◌, IfOk, IfErr, refl, sym, ap, subst, lit<, w32}
-use Rattle.std.proofs.raw_atomic.Walks.{proved_at}
+use Rattle.rc_c.proofs.Imports.{proved_at, IsRefusedBy, KeepsAsked, open_isnt_done, HasOpenedThis, hands_out}
 use base.Fraction.{full_share}
 use base.Logic.{SProp, ent, emp, id⊢}
 use base.Fml.{ftrue, flft}
@@ -34,11 +34,8 @@ use denote.Triple.Walked.{Stays, walk_of, stay_dropped, Goes-dropped, stay_ref, 
 use Rattle.std.specs.contracts.alloc.Global as global
 use Rattle.std.specs.contracts.result.Result as results
 use Rattle.std.proofs.alloc.Global.TheLaws.{the_row_laws as global_laws}
-use Rattle.rc_embed.specs.OpenFrames.{IsRefusedBy, KeepsAsked}
-use Rattle.rc_embed.specs.ResumedFramesLaws.{open_isnt_done}
 use Rattle.rc_embed.specs.contracts.open_frame.OpenFrame as frame
 use Rattle.rc_embed.specs.contracts.opening.OpenStore as stores
-use Rattle.rc_c.specs.HandedOut.{HasOpenedThis, hands_out}
 use Rattle.rc_c.proofs.Handing.{hands, hands_none, takes_out}
 use Rattle.rc_c.proofs.Shapes.{arm_body}
 use Rattle.rc_c.proofs.Takes.{result_out, single}

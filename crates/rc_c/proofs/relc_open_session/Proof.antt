@@ -1,7 +1,7 @@
 -- `relc_open_session` lends the store to `session_on`, and has it back. The session is lent for good: it is taken out of its loan, whose
 -- lifetime never ends, and its pointer is handed out.
 use Rattle.std.proofs.Common.{◌≡◌, ◌∙◌, ℕ, List, [], ◌∷◌, ◌++◌, IfOk, IfErr, refl, ap, lit<, w32, MutBor}
-use Rattle.std.proofs.raw_atomic.Walks.{proved}
+use Rattle.rc_c.proofs.Imports.{proved, hands_out, HasDealt, OpenSeen, AnswersSession}
 use base.Fraction.{full_share}
 use base.Logic.{emp, id⊢}
 use base.Fml.{fex, fsep, ftrue, flft, flent}
@@ -33,14 +33,11 @@ use denote.Triple.Spec.{triple_of}
 use denote.Triple.Walked.{Stays, walk_of, stay_dropped, Goes-dropped, stay_ref, Goes-ref, ends_at}
 use denote.Triple.Table.{framed}
 use Rattle.std.specs.contracts.result.Result as results
-use Rattle.rc_c.specs.HandedOut.{hands_out}
 use Rattle.rc_c.proofs.Handing.{hands, hands_none}
 use Rattle.rc_c.proofs.Shapes.{arm_body}
 use Rattle.rc_c.proofs.Takes.{result_out}
-use Rattle.rc_embed.specs.Opened.{HasDealt, OpenSeen}
 use Rattle.rc_embed.specs.contracts.opening.OpenStore.{the_row}
 use Rattle.rc_embed.specs.contracts.session.Session as sessions
-use Rattle.rc_c.specs.Answered.{AnswersSession}
 use Rattle.rc_c.specs.contracts.relc_open_session as f
 use Rattle.rc_c.proofs.relc_open_session.Statement.{statement}
 use Rattle.rc_c.proofs.relc_open_session.Code as code

@@ -1,7 +1,7 @@
 -- `relc_resume_closed` lends the place of the closed store to `resume_on` for the call, and has it back after it; the frame is passed on. The store
 -- that goes on is lent for good: it is taken out of its loan, whose lifetime never ends, and its pointer is handed out.
 use Rattle.std.proofs.Common.{◌≡◌, ◌∙◌, ℕ, List, [], ◌∷◌, ◌++◌, IfOk, IfErr, IsSome, Option, None, Some, refl, sym, ap, lit<, w32, MutBor}
-use Rattle.std.proofs.raw_atomic.Walks.{proved}
+use Rattle.rc_c.proofs.Imports.{proved, ClosedSeen, OpenFrame, KeepsAsked, OpenSeen, IsResumedBy, IsUnresumedBy, IsUnresumedFrom, isnt_done, lies_again, AnswersResumed, hands_out}
 use base.Fraction.{full_share}
 use base.Logic.{emp, id⊢}
 use base.Fml.{ftrue, flft, flent}
@@ -34,18 +34,9 @@ use denote.Triple.Spec.{triple_of}
 use denote.Triple.Walked.{Stays, walk_of, stay_dropped, Goes-dropped, stay_ref, gave_ref, Goes-ref, Goes-gave_ref, ends_at}
 use denote.Triple.Table.{framed}
 use Rattle.std.specs.contracts.result.Result as results
-use Rattle.rc_store.specs.Closed.{ClosedSeen}
-use Rattle.rc_embed.specs.declared.open_frame.OpenFrame.{OpenFrame}
-use Rattle.rc_embed.specs.OpenFrames.{KeepsAsked}
-use Rattle.rc_embed.specs.Opened.{OpenSeen}
-use Rattle.rc_embed.specs.ResumedFrames.{IsResumedBy, IsUnresumedBy, IsUnresumedFrom}
-use Rattle.rc_embed.specs.ResumedFramesLaws.{isnt_done}
 use Rattle.rc_embed.specs.contracts.open_frame.OpenFrame as frame
 use Rattle.rc_embed.specs.contracts.opening.OpenStore as stores
 use Rattle.rc_embed.specs.contracts.resume_frame.ClosedPlace.{the_row}
-use Rattle.rc_c.specs.Answered.{lies_again}
-use Rattle.rc_c.specs.Closing.{AnswersResumed}
-use Rattle.rc_c.specs.HandedOut.{hands_out}
 use Rattle.rc_c.proofs.Handing.{hands, hands_none, so_again, takes_out}
 use Rattle.rc_c.proofs.Shapes.{arm_body}
 use Rattle.rc_c.proofs.Takes.{result_out}

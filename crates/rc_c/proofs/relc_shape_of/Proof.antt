@@ -1,9 +1,8 @@
 -- `relc_shape_of` lends the store and the frame to `shape_on` for the call, and has both back after it.
 use Rattle.std.proofs.Common.{ℕ, [], ◌∷◌, ◌++◌, refl, w32, MutBor}
-use Rattle.std.proofs.raw_atomic.Walks.{proved}
+use Rattle.rc_c.proofs.Imports.{proved, AnswersSameShape, OpenSeen, ShapeFrame}
 use base.Fraction.{full_share}
 use base.Logic.{id⊢}
-use Rattle.rc_c.specs.Answered.{AnswersSameShape}
 use base.Fml.{fex, fsep, ftrue, flft, flent}
 use mir.Syntax.{named}
 use contract.Running.{tables}
@@ -30,9 +29,7 @@ use denote.Triple.Clauses.{lasts}
 use denote.Triple.Spec.{triple_of}
 use denote.Triple.Walked.{Stays, walk_of, stay_dropped, Goes-dropped, stay_ref, Goes-ref, ends_at}
 use denote.Triple.Table.{framed}
-use Rattle.rc_embed.specs.Opened.{OpenSeen}
 use Rattle.rc_embed.specs.contracts.opening.OpenStore.{the_row}
-use Rattle.rc_embed.specs.declared.shape_frame.ShapeFrame.{ShapeFrame}
 use Rattle.rc_embed.specs.contracts.shape_frame.ShapeFrame as frame
 use Rattle.rc_c.specs.contracts.relc_shape_of as f
 use Rattle.rc_c.proofs.relc_shape_of.Statement.{statement}

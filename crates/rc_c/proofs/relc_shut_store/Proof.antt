@@ -1,7 +1,7 @@
 -- `relc_shut_store` reads the store out of its memory, and closes it. The place of what is left is lent for good: it is taken out of its loan, whose
 -- lifetime never ends, its pointer is handed out, and the room of the store stays. Or the store comes back, and is written into its memory again.
 use Rattle.std.proofs.Common.{◌≡◌, ◌∙◌, ℕ, Bool, true, false, ◌&&◌, List, [], ◌∷◌, ◌++◌, IfOk, IfErr, Option, None, Some, refl, sym, ap, subst, arith, lit<, w32}
-use Rattle.std.proofs.raw_atomic.Walks.{proved}
+use Rattle.rc_c.proofs.Imports.{proved, same_Some, NotClosed, HasAllPasses, OpenSeen, HasClosedInto, IsUnclosedFor, AnswersClosed, left_behind, hands_out}
 use base.Fraction.{full_share}
 use base.Logic.{SProp, ent, emp, id⊢, never_e, fst∗, via, never}
 use seplogic.Ra.Ura.{Ura}
@@ -35,19 +35,12 @@ use denote.Triple.Clauses.{Lasts, lasts}
 use denote.Triple.Spec.{triple_of}
 use denote.Triple.Walked.{Stays, walk_of, stay_dropped, Goes-dropped, stay_ref, Goes-ref, ends_at}
 use denote.Triple.Table.{framed}
-use Rattle.std.proofs.lemmas.Option.{same_Some}
 use Rattle.std.specs.contracts.result.Result as results
-use Rattle.rc_embed.specs.declared.resume_frame.NotClosed.{NotClosed}
-use Rattle.rc_embed.specs.Closing.{HasAllPasses}
-use Rattle.rc_embed.specs.Opened.{OpenSeen}
-use Rattle.rc_embed.specs.ResumedFrames.{HasClosedInto, IsUnclosedFor}
 use Rattle.rc_embed.specs.contracts.opening.OpenStore as stores
 use Rattle.rc_embed.specs.contracts.resume_frame.ClosedPlace as places
 use Rattle.rc_embed.specs.contracts.resume_frame.NotClosed as backs
 use Rattle.rc_embed.proofs.opening.OpenStore.TheLaws.{the_row_laws as store_laws}
 use Rattle.rc_embed.proofs.resume_frame.NotClosed.TheLaws.{the_row_laws as back_laws}
-use Rattle.rc_c.specs.Closing.{AnswersClosed, left_behind}
-use Rattle.rc_c.specs.HandedOut.{hands_out}
 use Rattle.rc_c.proofs.Handing.{hands, hands_none}
 use Rattle.rc_c.proofs.Shapes.{arm_body}
 use Rattle.rc_c.proofs.Takes.{result_out, single}

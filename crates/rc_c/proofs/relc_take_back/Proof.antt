@@ -1,7 +1,7 @@
 -- `relc_take_back` reads the session out of its memory, and lends the store to `take_back_on` for the call: it has the store back
 -- after it, and leaves the room of the session.
 use Rattle.std.proofs.Common.{◌≡◌, ℕ, List, [], ◌∷◌, ◌++◌, refl, w32, MutBor}
-use Rattle.std.proofs.raw_atomic.Walks.{proved}
+use Rattle.rc_c.proofs.Imports.{proved, OpenSeen, AnswersGivenBack}
 use base.Fraction.{full_share}
 use base.Logic.{SProp, emp, ent, id⊢, never_e, fst∗, via, never}
 use seplogic.Ra.Ura.{Ura}
@@ -33,10 +33,8 @@ use denote.Triple.Entry.{on_entry}
 use denote.Triple.Spec.{triple_of}
 use denote.Triple.Walked.{Stays, walk_of, stay_dropped, Goes-dropped, ends_at}
 use denote.Triple.Table.{framed}
-use Rattle.rc_embed.specs.Opened.{OpenSeen}
 use Rattle.rc_embed.specs.contracts.opening.OpenStore as stores
 use Rattle.rc_embed.specs.contracts.session.Session as sessions
-use Rattle.rc_c.specs.GivenBack.{AnswersGivenBack}
 use Rattle.rc_c.specs.contracts.relc_take_back as f
 use Rattle.rc_c.proofs.relc_take_back.Statement.{statement}
 use Rattle.rc_c.proofs.relc_take_back.Code as code

@@ -1,8 +1,6 @@
 use Rattle.std.proofs.Common.{◌≡◌, ◌∙◌, None, refl, sym, subst}
-use Rattle.std.proofs.lemmas.Option.{none-some}
-use Rattle.rc_embed.specs.declared.session.State.{State}
+use Rattle.rc_c.proofs.Imports.{none-some, State, HasCancelled, IsIdle, SessionSeen, uncommitted_in}
 use Rattle.rc_embed.specs.declared.session.State.TheVariants as states
-use Rattle.rc_embed.specs.Session.{HasCancelled, IsIdle, SessionSeen, uncommitted_in}
 use Rattle.rc_c.proofs.settled.Goals as goal
 
 -- an idle session has nothing to cancel

@@ -1,6 +1,5 @@
 use Rattle.std.proofs.Common.{◌≤◌, length, refl, inr, arith}
-use Rattle.rc_embed.specs.Closing.{pass_count}
-use Rattle.rc_embed.specs.OutsideLaws.{some_outside_leave_room}
+use Rattle.rc_c.proofs.Imports.{pass_count, some_outside_leave_room}
 use Rattle.rc_c.proofs.take_back_on.Goals as goal
 
 pub returns-in-Err : goal.returns-in-Err

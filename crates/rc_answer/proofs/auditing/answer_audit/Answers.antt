@@ -1,13 +1,5 @@
 use Rattle.std.proofs.Common.{◌≡◌, Err, Ok, refl, sym, subst}
-use Rattle.rc_reader.specs.Answers.{IsRead, rest_place}
-use Rattle.rc_reader.specs.Grammar.{spec_reading}
-use Rattle.rc_spec.specs.declared.spec.Spec.{Spec}
-use Rattle.rc_spec.specs.Acceptance.{IsAccepted}
-use Rattle.rc_text.specs.Lines.{content_from, past_end_of}
-use Rattle.rc_work.specs.Answers.{ReadsPart}
-use Rattle.rc_work.specs.declared.also.Also.TheVariants.{Nothing}
-use Rattle.rc_work.specs.PartGrammar.{part_reading}
-use Rattle.rc_answer.specs.Answers.{AnswersAudit, IsJudgement}
+use Rattle.rc_answer.proofs.Imports.{IsRead, rest_place, spec_reading, Spec, IsAccepted, content_from, past_end_of, ReadsPart, Nothing, part_reading, AnswersAudit, IsJudgement}
 use Rattle.rc_answer.proofs.AnswerLemmas.{judgement_answers, part_refusal_answers, writes_wider}
 use Rattle.rc_answer.proofs.auditing.answer_audit.Goals as goal
 

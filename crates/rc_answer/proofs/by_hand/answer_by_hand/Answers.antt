@@ -1,8 +1,5 @@
 use Rattle.std.proofs.Common.{◌≡◌, refl, subst, sym}
-use Rattle.rc_reader.specs.Answers.{IsRead}
-use Rattle.rc_spec.specs.Acceptance.{IsAccepted}
-use Rattle.rc_spec.specs.declared.spec.Spec.{Spec}
-use Rattle.rc_answer.specs.Ran.{status_in}
+use Rattle.rc_answer.proofs.Imports.{IsRead, IsAccepted, Spec, status_in}
 use Rattle.rc_answer.proofs.ByHandLemmas.{by_hand_answers, hand_refusal_answers}
 use Rattle.rc_answer.proofs.by_hand.answer_by_hand.Goals as goal
 

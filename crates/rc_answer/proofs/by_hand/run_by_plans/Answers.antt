@@ -1,11 +1,5 @@
 use Rattle.std.proofs.Common.{◌∙◌, refl, subst, sym}
-use Rattle.rc_text.specs.Lines.{content_from, past_end_of}
-use Rattle.rc_spec.specs.Names.{IsWellNamed}
-use Rattle.rc_reader.specs.Answers.{rest_place}
-use Rattle.rc_answer.specs.Answers.{AnswersChosen}
-use Rattle.rc_answer.specs.Ran.{done_in}
-use Rattle.rc_answer.specs.RanByHand.{HasChosenText}
-use Rattle.rc_answer.specs.Writes.{Writes}
+use Rattle.rc_answer.proofs.Imports.{content_from, past_end_of, IsWellNamed, rest_place, AnswersChosen, done_in, HasChosenText, Writes}
 use Rattle.rc_answer.proofs.ByHandLemmas.{chosen_answers, chosen_text, of_operations}
 use Rattle.rc_answer.proofs.RanLemmas.{done_each, done_status}
 use Rattle.rc_answer.proofs.by_hand.run_by_plans.Goals as goal

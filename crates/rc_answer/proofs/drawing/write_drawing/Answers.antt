@@ -1,6 +1,5 @@
 use Rattle.std.proofs.Common.{◌∙◌, refl}
-use Rattle.rc_dot.specs.Dot.{drawing_text}
-use Rattle.rc_answer.specs.Answers.{IsDrawing}
+use Rattle.rc_answer.proofs.Imports.{drawing_text, IsDrawing}
 use Rattle.rc_answer.proofs.DrawingLemmas.{text_begun, text_written}
 use Rattle.rc_answer.proofs.drawing.write_drawing.Goals as goal
 

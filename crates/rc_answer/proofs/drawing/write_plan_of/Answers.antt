@@ -1,7 +1,5 @@
 use Rattle.std.proofs.Common.{◌∙◌, refl}
-use Rattle.rc_dot.specs.Dot.{plan_drawing_text}
-use Rattle.rc_plan.specs.Compiled.{SpecWithPlans, plan_at}
-use Rattle.rc_answer.specs.Answers.{IsPlanDrawing}
+use Rattle.rc_answer.proofs.Imports.{plan_drawing_text, SpecWithPlans, plan_at, IsPlanDrawing}
 use Rattle.rc_answer.proofs.DrawingLemmas.{drawing_printed, text_begun, text_written}
 use Rattle.rc_answer.proofs.drawing.write_plan_of.Goals as goal
 

@@ -1,8 +1,5 @@
 use Rattle.std.proofs.Common.{◌≡◌, refl, subst, sym}
-use Rattle.rc_reader.specs.Answers.{IsRead, rest_place}
-use Rattle.rc_spec.specs.Acceptance.{IsAccepted}
-use Rattle.rc_spec.specs.declared.spec.Spec.{Spec}
-use Rattle.rc_answer.specs.Ran.{HasOpenText, HasOpenWorkText, status_in}
+use Rattle.rc_answer.proofs.Imports.{IsRead, rest_place, IsAccepted, Spec, HasOpenText, HasOpenWorkText, status_in}
 use Rattle.rc_answer.proofs.ByHandLemmas.{each_ran}
 use Rattle.rc_answer.proofs.OpenLemmas.{open_answers, open_refusal_answers, opened_text}
 use Rattle.rc_answer.proofs.open_run.answer_open.Goals as goal

@@ -1,7 +1,5 @@
 use Rattle.std.proofs.Common.{Err, ◌≡◌, ◌∙◌, List, ap, length, refl, subst}
-use Rattle.rc_io.specs.Bytes.{Adds}
-use Rattle.rc_spec.specs.declared.spec.Spec.{Spec}
-use Rattle.rc_work.specs.Shapes.{with_operations}
+use Rattle.rc_answer.proofs.Imports.{Adds, Spec, with_operations}
 use Rattle.rc_answer.proofs.OpenLemmas.{extended_run, open_begun, open_written, text_is}
 use Rattle.rc_answer.proofs.open_run.perform_open.Goals as goal
 

@@ -1,14 +1,5 @@
 use Rattle.std.proofs.Common.{◌+◌, ◌≤◌, length, arith, subst, sym}
-use Rattle.std.specs.List.{AllByRecursion}
-use Rattle.rc_spec.specs.Acceptance.{IsAccepted, IsSealed}
-use Rattle.rc_spec.specs.declared.spec.Spec.{Spec}
-use Rattle.rc_reader.specs.Answers.{rest_place}
-use Rattle.rc_work.specs.OpenGrammar.{open_reading}
-use Rattle.rc_work.specs.Shapes.{IsShapeOf, with_operations}
-use Rattle.rc_open.specs.ExtendedLaws.{sealed_over}
-use Rattle.rc_answer.specs.Answers.{AnswersOpenWork}
-use Rattle.rc_answer.specs.Ran.{HasOpenWorkText, done_in, status_in}
-use Rattle.rc_answer.specs.Writes.{Writes}
+use Rattle.rc_answer.proofs.Imports.{AllByRecursion, IsAccepted, IsSealed, Spec, rest_place, open_reading, IsShapeOf, with_operations, sealed_over, AnswersOpenWork, HasOpenWorkText, done_in, status_in, Writes}
 use Rattle.rc_answer.proofs.OpenLemmas.{open_work_answers, open_work_refusal, open_work_text}
 use Rattle.rc_answer.proofs.RanLemmas.{done_each, done_status}
 use Rattle.rc_answer.proofs.open_run.run_open.Goals as goal

@@ -1,11 +1,5 @@
 use Rattle.std.proofs.Common.{◌-◌, ◌∙◌, List, drop, length, subst, sym}
-use Rattle.rc_io.specs.Bytes.{Adds, AddsPrefix}
-use Rattle.rc_io.specs.BytesLaws.{adds_prefix_longer, adds_prefix_more}
-use Rattle.rc_open.specs.ShapeText.{shapes_text}
-use Rattle.rc_spec.specs.InRange.{IsOpAmong}
-use Rattle.rc_spec.specs.declared.spec.Spec.{Spec}
-use Rattle.rc_tuple.specs.RisingSet.{In}
-use Rattle.rc_answer.specs.Ran.{run_text}
+use Rattle.rc_answer.proofs.Imports.{Adds, AddsPrefix, adds_prefix_longer, adds_prefix_more, shapes_text, IsOpAmong, Spec, In, run_text}
 use Rattle.rc_answer.proofs.OpenLemmas.{in_further, shapes_printed}
 use Rattle.rc_answer.proofs.RanLemmas.{on_err_both}
 use Rattle.rc_answer.proofs.WriteLemmas.{on_err}

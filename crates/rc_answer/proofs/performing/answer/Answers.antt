@@ -1,7 +1,4 @@
-use Rattle.std.proofs.Common.{subst, sym}
-use Rattle.std.specs.Prelude.{IfOk, IfSome}
-use Rattle.rc_command.specs.declared.command.TextCommand.{TextCommand}
-use Rattle.rc_answer.specs.Ran.{HasTextOf}
+use Rattle.rc_answer.proofs.Imports.{subst, sym, IfOk, IfSome, TextCommand, HasTextOf}
 use Rattle.rc_answer.proofs.performing.answer.Goals as goal
 
 pub returns-in-Run-clause-ran : goal.returns-in-Run-clause-ran

@@ -1,7 +1,4 @@
-use Rattle.std.proofs.Common.{refl}
-use Rattle.rc_reader.specs.Grammar.{spec_of}
-use Rattle.rc_answer.specs.Answers.{AnswersAlone}
-use Rattle.rc_answer.specs.Asked.{IsAskedText}
+use Rattle.rc_answer.proofs.Imports.{refl, spec_of, AnswersAlone, IsAskedText}
 use Rattle.rc_answer.proofs.AnswerLemmas.{writes_wider, alone_answers}
 use Rattle.rc_answer.proofs.performing.answer_alone.Goals as goal
 

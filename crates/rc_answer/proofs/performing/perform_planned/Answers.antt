@@ -1,5 +1,4 @@
-use Rattle.rc_answer.specs.Plans.{ArePlanned}
-use Rattle.rc_answer.specs.Ran.{done_in}
+use Rattle.rc_answer.proofs.Imports.{ArePlanned, done_in}
 use Rattle.rc_answer.proofs.RanLemmas.{all_ran_by, are_planned, reported_by}
 use Rattle.rc_answer.proofs.performing.perform_planned.Goals as goal
 

@@ -1,12 +1,5 @@
 use Rattle.std.proofs.Common.{◌≡◌, Err, Ok, refl, sym, subst}
-use Rattle.rc_reader.specs.Answers.{IsRead, ReadsAs, rest_place}
-use Rattle.rc_reader.specs.Grammar.{spec_reading}
-use Rattle.rc_spec.specs.declared.spec.Spec.{Spec}
-use Rattle.rc_spec.specs.Acceptance.{IsAccepted}
-use Rattle.rc_work.specs.Ranking.{work_reading}
-use Rattle.rc_answer.specs.Answers.{AnswersRun, IsReport}
-use Rattle.rc_answer.specs.Ran.{done_in, status_in}
-use Rattle.rc_answer.specs.Writes.{Writes}
+use Rattle.rc_answer.proofs.Imports.{IsRead, ReadsAs, rest_place, spec_reading, Spec, IsAccepted, work_reading, AnswersRun, IsReport, done_in, status_in, Writes}
 use Rattle.rc_answer.proofs.AnswerLemmas.{refusal_answers, report_answers, spec_refusal_answers, writes_wider}
 use Rattle.rc_answer.proofs.RanLemmas.{done_has_ran, done_ran, done_status, read_as}
 use Rattle.rc_answer.proofs.performing.run.Goals as goal

@@ -1,6 +1,5 @@
 use Rattle.std.proofs.Common.{◌∙◌, ap, sym}
-use Rattle.std.specs.Prelude.{option_copied}
-use Rattle.rc_answer.specs.Ran.{entries_in}
+use Rattle.rc_answer.proofs.Imports.{option_copied, entries_in}
 use Rattle.rc_answer.proofs.RanLemmas.{on_err_both, plans_part, report_part}
 use Rattle.rc_answer.proofs.WriteLemmas.{on_err}
 use Rattle.rc_answer.proofs.performing.write_run.Goals as goal

@@ -1,8 +1,4 @@
-use Rattle.std.proofs.Common.{subst}
-use Rattle.rc_spec.specs.Acceptance.{IsFirstBroken}
-use Rattle.rc_spec.specs.AcceptanceLaws.{refused_not_accepted}
-use Rattle.rc_place.specs.Fault.{IfHandedBack}
-use Rattle.rc_place.specs.declared.acceptance.AcceptFault.{AcceptFault}
+use Rattle.rc_answer.proofs.Imports.{subst, IsFirstBroken, refused_not_accepted, IfHandedBack, AcceptFault}
 use Rattle.rc_answer.proofs.summing.accepted_sample.Goals as goal
 
 pub unreachable-requires : goal.unreachable-requires

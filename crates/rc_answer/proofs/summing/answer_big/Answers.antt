@@ -1,6 +1,4 @@
-use Rattle.std.proofs.Common.{subst}
-use Rattle.rc_answer.specs.Big.{HasSummaryText, IsBigText}
-use Rattle.rc_answer.specs.Writes.{Writes}
+use Rattle.rc_answer.proofs.Imports.{subst, HasSummaryText, IsBigText, Writes}
 use Rattle.rc_answer.proofs.RanLemmas.{done_status}
 use Rattle.rc_answer.proofs.SummingLemmas.{outcome_has_ran, outcome_ran}
 use Rattle.rc_answer.proofs.summing.answer_big.Goals as goal

@@ -1,8 +1,6 @@
 use Rattle.std.proofs.Common.{◌≡◌, ◌∙◌, List, ℕ, ap, sym, subst}
-use Rattle.std.specs.Prelude.{option_copied, OnErr, OnOk}
-use Rattle.rc_io.specs.Bytes.{Adds, AddsPrefix}
-use Rattle.rc_answer.specs.Big.{ran_text}
-use Rattle.rc_answer.specs.Ran.{entries_in}
+use Rattle.rc_answer.proofs.Imports.{option_copied, OnOk, Adds, AddsPrefix, ran_text, entries_in}
+use Rattle.std.specs.Prelude.{OnErr}
 use Rattle.rc_answer.proofs.SummingLemmas.{printed_text}
 use Rattle.rc_answer.proofs.summing.write_summary.Goals as goal
 

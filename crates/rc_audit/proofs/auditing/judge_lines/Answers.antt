@@ -1,8 +1,5 @@
 use Rattle.std.proofs.Common.{◌++◌, ◌∷◌, [], sym, ap, subst, ◌∙◌}
-use Rattle.std.specs.Prelude.{IfOk}
-use Rattle.rc_text.specs.Lines.{bytes_of_content, content_from, content_of, past_end_of}
-use Rattle.rc_audit.specs.GoodReports.{IsVerdict}
-use Rattle.rc_audit.specs.Judging.{HasPassed, judged_form, judged_plans, judged_work}
+use Rattle.rc_audit.proofs.Imports.{IfOk, bytes_of_content, content_from, content_of, past_end_of, IsVerdict, HasPassed, judged_form, judged_plans, judged_work}
 use Rattle.rc_audit.proofs.JudgeLemmas.{bad_verdict, bytes_more, few_verdict, judged_bad, whole_more}
 use Rattle.rc_audit.proofs.auditing.judge_lines.Goals as goal
 

@@ -1,6 +1,5 @@
 use Rattle.std.proofs.Common.{◌≡◌, ◌++◌, List, length}
-use Rattle.rc_text.specs.Lines.{ContentLine, bytes_of_content, content_from}
-use Rattle.rc_audit.specs.Judging.{HasPassed, judged_form, judged_plans, judged_work}
+use Rattle.rc_audit.proofs.Imports.{ContentLine, bytes_of_content, content_from, HasPassed, judged_form, judged_plans, judged_work}
 use Rattle.rc_audit.proofs.auditing.judge_lines.Given as goal
 
 abbrev pub invariant-loop-line : goal.invariant-loop-line

@@ -1,5 +1,4 @@
-use Rattle.std.proofs.Common.{refl}
-use Rattle.rc_audit.specs.CursorsLaws.{begun_more, begun_none}
+use Rattle.rc_audit.proofs.Imports.{refl, begun_more, begun_none}
 use Rattle.rc_audit.proofs.cursors.first_cursors.Goals as goal
 
 pub loop-thread-init : goal.loop-thread-init

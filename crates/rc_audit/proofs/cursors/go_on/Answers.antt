@@ -1,7 +1,5 @@
 use Rattle.std.proofs.Common.{◌+◌, ap, sym, ◌∙◌, length}
-use Rattle.std.proofs.lemmas.List.{get_or_default}
-use Rattle.rc_audit.specs.Cursors.{turns_from}
-use Rattle.rc_audit.specs.CursorsLaws.{gone_on}
+use Rattle.rc_audit.proofs.Imports.{get_or_default, turns_from, gone_on}
 use Rattle.rc_audit.proofs.cursors.go_on.Goals as goal
 
 pub returns : goal.returns

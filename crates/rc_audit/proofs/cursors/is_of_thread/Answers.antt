@@ -1,7 +1,5 @@
 use Rattle.std.proofs.Common.{◌++◌, length, drop, sym, ap, ◌∙◌}
-use Rattle.std.proofs.lemmas.Bool.{false≢true}
-use Rattle.std.proofs.lemmas.Bool.Decides.{Decides-eqb}
-use Rattle.std.proofs.lemmas.Slice.Eq.{starts_is}
+use Rattle.rc_audit.proofs.Imports.{false≢true, Decides-eqb, starts_is}
 use Rattle.rc_audit.proofs.CursorLemmas.{head_is, head_text}
 use Rattle.rc_audit.proofs.cursors.is_of_thread.Goals as goal
 

@@ -1,6 +1,5 @@
 use Rattle.std.proofs.Common.{ℕ, ◌<◌}
-use Rattle.rc_audit.specs.Cursors.{HasLeft}
-use Rattle.rc_audit.specs.Judging.{IsOfThread}
+use Rattle.rc_audit.proofs.Imports.{HasLeft, IsOfThread}
 use Rattle.rc_audit.proofs.cursors.thread_of.Given as goal
 
 abbrev pub invariant-loop-thread : goal.invariant-loop-thread

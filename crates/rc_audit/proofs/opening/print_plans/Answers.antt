@@ -1,7 +1,5 @@
 use Rattle.std.proofs.Common.{◌++◌, ◌∷◌, map, sym, ◌∙◌}
-use Rattle.std.specs.Prelude.{codes}
-use Rattle.rc_spec.specs.Placement.{op_at}
-use Rattle.rc_plan.specs.PlanText.{statement_text}
+use Rattle.rc_audit.proofs.Imports.{codes, op_at, statement_text}
 use Rattle.rc_audit.proofs.OpeningLemmas.{first_more}
 use Rattle.rc_audit.proofs.opening.print_plans.Goals as goal
 

@@ -1,8 +1,5 @@
 use Rattle.std.proofs.Common.{◌∙◌, length, take, ap, arith}
-use Rattle.std.proofs.lemmas.List.Sums.{sum_by_more_le}
-use Rattle.rc_work.specs.RunLengthLaws.{few_turns}
-use Rattle.rc_work.specs.declared.work.Turn.{Turn}
-use Rattle.std.specs.Prelude.{List, sum_by}
+use Rattle.rc_audit.proofs.Imports.{sum_by_more_le, few_turns, Turn, List, sum_by}
 use Rattle.rc_audit.proofs.opening.turn_count.Goals as goal
 
 pub overflow_add-count : goal.overflow_add-count

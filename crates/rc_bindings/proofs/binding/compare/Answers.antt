@@ -1,12 +1,5 @@
 use Rattle.std.proofs.Common.{◌≡◌, ◌≤◌, inl, inr, subst, sym, ◌∙◌, arith}
-use Rattle.std.proofs.Math.Nat.{eq-or-lt_of_le}
-use Rattle.std.proofs.lemmas.Bool.{false≢true}
-use Rattle.std.proofs.lemmas.Cmp.{ranked}
-use Rattle.std.specs.declared.cmp.Ordering.TheVariants.{Equal}
-use Rattle.rc_tuple.specs.RisingSet.{In}
-use Rattle.rc_tuple.specs.RisingSetLaws.{has_in, in_has}
-use Rattle.rc_bindings.specs.Registers.{register}
-use Rattle.rc_bindings.specs.RegistersLaws.{tuple_in-decided, tuple_in-equal}
+use Rattle.rc_bindings.proofs.Imports.{eq-or-lt_of_le, false≢true, ranked, Equal, In, has_in, in_has, register, tuple_in-decided, tuple_in-equal}
 use Rattle.rc_bindings.proofs.binding.compare.Goals as goal
 
 pub bounds-others-col : goal.bounds-others-col

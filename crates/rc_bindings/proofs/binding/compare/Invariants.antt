@@ -1,6 +1,5 @@
 use Rattle.std.proofs.Common.{◌≡◌, ℕ, ◌<◌}
-use Rattle.rc_tuple.specs.RisingSet.{In}
-use Rattle.rc_bindings.specs.Registers.{register}
+use Rattle.rc_bindings.proofs.Imports.{In, register}
 use Rattle.rc_bindings.proofs.binding.compare.Given as goal
 
 abbrev pub invariant-loop-col : goal.invariant-loop-col

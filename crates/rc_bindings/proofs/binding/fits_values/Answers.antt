@@ -1,13 +1,5 @@
 use Rattle.std.proofs.Common.{◌≡◌, ◌+◌, ◌∷◌, ◌==◌, [], Bool, cond, get_or, length, not, true, false, refl, sym, ap, subst, ◌∙◌, arith, inl, inr}
-use Rattle.std.proofs.lemmas.Bool.{and_from, eq-eqb, eqb-true, false≢true, or_cases, or_left, or_right}
-use Rattle.std.specs.List.{zip}
-use Rattle.rc_tuple.specs.ColSet.{has, inter}
-use Rattle.rc_tuple.specs.ColSetLaws.{slice_get-rank}
-use Rattle.rc_tuple.specs.RisingSet.{In}
-use Rattle.rc_tuple.specs.RisingSetLaws.{list_all_in}
-use Rattle.rc_tuple.specs.TupleLaws.{cols_of-zip}
-use Rattle.rc_bindings.specs.Registers.{columns_below, fits, fits_all, register}
-use Rattle.rc_bindings.specs.RegistersLaws.{fits_all-append, fits_apart, length-columns_below_more, none_shared, pairs_below, pairs_below_all, pairs_below_out, pairs_below_there, place_within, zip_there}
+use Rattle.rc_bindings.proofs.Imports.{and_from, eq-eqb, eqb-true, false≢true, or_cases, or_left, or_right, zip, has, inter, slice_get-rank, In, list_all_in, cols_of-zip, columns_below, fits, fits_all, register, fits_all-append, fits_apart, length-columns_below_more, none_shared, pairs_below, pairs_below_all, pairs_below_out, pairs_below_there, place_within, zip_there}
 use Rattle.rc_bindings.proofs.binding.fits_values.Goals as goal
 use Rattle.rc_bindings.proofs.binding.fits_values.Goals.{else-has-via-then-has+else-registers-col, else-has-via-else-has}
 

@@ -1,6 +1,5 @@
 use Rattle.std.proofs.Common.{◌≡◌, ◌≤◌, length, true}
-use Rattle.rc_bindings.specs.Registers.{columns_below, fits_all}
-use Rattle.rc_bindings.specs.RegistersLaws.{pairs_below}
+use Rattle.rc_bindings.proofs.Imports.{columns_below, fits_all, pairs_below}
 use Rattle.rc_bindings.proofs.binding.fits_values.Given as goal
 
 abbrev pub invariant-loop-col : goal.invariant-loop-col

@@ -1,8 +1,5 @@
 use Rattle.std.proofs.Common.{◌≡◌, ◌+◌, ◌++◌, ◌∷◌, [], cond, map, true, false, ap, sym, ◌∙◌, arith, length}
-use Rattle.std.proofs.lemmas.List.{append_assoc, append-nil}
-use Rattle.rc_tuple.specs.ColSet.{has}
-use Rattle.rc_bindings.specs.Registers.{columns_below, register}
-use Rattle.rc_bindings.specs.RegistersLaws.{columns_below_all, length-columns_below_more, place_within, values_next}
+use Rattle.rc_bindings.proofs.Imports.{append_assoc, append-nil, has, columns_below, register, columns_below_all, length-columns_below_more, place_within, values_next}
 use Rattle.rc_bindings.proofs.binding.push_registers.Goals as goal
 use Rattle.rc_bindings.proofs.binding.push_registers.Goals.{then-has, else-has}
 

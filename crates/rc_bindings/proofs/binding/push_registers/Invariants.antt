@@ -1,6 +1,5 @@
 use Rattle.std.proofs.Common.{◌≡◌, ◌+◌, ◌-◌, ◌≤◌, ◌++◌, length, map}
-use Rattle.std.specs.Vec.{vec_len, vec_capacity}
-use Rattle.rc_bindings.specs.Registers.{columns_below, register}
+use Rattle.rc_bindings.proofs.Imports.{vec_len, vec_capacity, columns_below, register}
 use Rattle.rc_bindings.proofs.binding.push_registers.Given as goal
 
 abbrev pub invariant-loop-col : goal.invariant-loop-col

@@ -1,7 +1,5 @@
 use Rattle.std.proofs.Common.{◌<◌, ◌^◌, ◌-◌, drop, take, subst, arith}
-use Rattle.rc_tuple.specs.RisingSet.{In}
-use Rattle.rc_tuple.specs.RisingSetLaws.{append_in_left, append_in_right, in_from_places}
-use Rattle.std.proofs.lemmas.List.{take-append-drop}
+use Rattle.rc_bindings.proofs.Imports.{In, append_in_left, append_in_right, in_from_places, take-append-drop}
 use Rattle.rc_bindings.proofs.bindings.part.Goals as goal
 
 pub returns-clause-words : goal.returns-clause-words

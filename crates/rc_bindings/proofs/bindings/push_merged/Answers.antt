@@ -1,18 +1,5 @@
 use Rattle.std.proofs.Common.{◌≡◌, ◌+◌, ◌<◌, ◌++◌, ◌∷◌, [], List, ℕ, cond, false, get_or, length, suc, take, true, sym, ap, subst, ◌∙◌, arith}
-use Rattle.std.proofs.Math.Seq.{take-suc}
-use Rattle.std.proofs.lemmas.Bool.{false≢true}
-use Rattle.std.proofs.lemmas.List.{append_assoc, take_all}
-use Rattle.std.specs.List.{zip}
-use Rattle.std.specs.Ordering.{nat_cmp}
-use Rattle.rc_tuple.specs.ColSet.{IsColSet, has}
-use Rattle.rc_tuple.specs.ColSetLaws.{slice_get-rank}
-use Rattle.rc_tuple.specs.RisingSet.{In, IsRising}
-use Rattle.rc_tuple.specs.RisingSetLaws.{has_in, in_has, map_in}
-use Rattle.rc_tuple.specs.Tuple.{cols_of}
-use Rattle.rc_tuple.specs.TupleLaws.{cols_of-zip}
-use Rattle.rc_bindings.specs.Bindings.{given}
-use Rattle.rc_bindings.specs.Registers.{all_written, columns_below, register}
-use Rattle.rc_bindings.specs.RegistersLaws.{all_written-append, has_not, length-all_written, length-columns_below_more, place_within, register-unwritten, register-written, zip_there}
+use Rattle.rc_bindings.proofs.Imports.{take-suc, false≢true, append_assoc, take_all, zip, nat_cmp, IsColSet, has, slice_get-rank, In, IsRising, has_in, in_has, map_in, cols_of, cols_of-zip, given, all_written, columns_below, register, all_written-append, has_not, length-all_written, length-columns_below_more, place_within, register-unwritten, register-written, zip_there}
 use Rattle.rc_bindings.proofs.bindings.push_merged.Goals as goal
 use Rattle.rc_bindings.proofs.bindings.push_merged.Goals.{then-has, else-has+then-has-2, else-has+else-has-2}
 

@@ -1,7 +1,5 @@
 use Rattle.std.proofs.Common.{◌≡◌, ◌+◌, ◌-◌, ◌≤◌, ◌++◌, length, take}
-use Rattle.std.specs.Vec.{vec_len, vec_capacity}
-use Rattle.rc_bindings.specs.Bindings.{given}
-use Rattle.rc_bindings.specs.Registers.{all_written, columns_below}
+use Rattle.rc_bindings.proofs.Imports.{vec_len, vec_capacity, given, all_written, columns_below}
 use Rattle.rc_bindings.proofs.bindings.push_merged.Given as goal
 
 abbrev pub invariant-loop-col : goal.invariant-loop-col

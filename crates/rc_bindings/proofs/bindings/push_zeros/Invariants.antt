@@ -1,6 +1,5 @@
 use Rattle.std.proofs.Common.{◌+◌, ◌-◌, ◌≤◌}
-use Rattle.std.specs.Vec.{vec_len, vec_capacity}
-use Rattle.rc_bindings.specs.Bindings.{HasMore}
+use Rattle.rc_bindings.proofs.Imports.{vec_len, vec_capacity, HasMore}
 use Rattle.rc_bindings.proofs.bindings.push_zeros.Given as goal
 
 abbrev pub invariant-loop : goal.invariant-loop

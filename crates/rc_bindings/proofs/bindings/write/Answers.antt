@@ -1,11 +1,5 @@
 use Rattle.std.proofs.Common.{◌≡◌, ◌+◌, ◌-◌, ◌<◌, ◌++◌, ◌∷◌, ℕ, List, cond, drop, get_or, length, set, take, refl, sym, ap, ◌∙◌, arith}
-use Rattle.std.proofs.Math.ListN.{length-set}
-use Rattle.std.proofs.lemmas.List.{drop_more, length-append, length-drop, length-take-le, set-append_right, take-append-drop}
-use Rattle.rc_tuple.specs.RisingSet.{In}
-use Rattle.rc_tuple.specs.RisingSetLaws.{in_has}
-use Rattle.rc_tuple.specs.Tuple.{project}
-use Rattle.rc_spec.specs.InRange.{IsSetBelow}
-use Rattle.rc_bindings.specs.Registers.{all_written}
+use Rattle.rc_bindings.proofs.Imports.{length-set, drop_more, length-append, length-drop, length-take-le, set-append_right, take-append-drop, In, in_has, project, IsSetBelow, all_written}
 use Rattle.rc_bindings.proofs.bindings.write.Goals as goal
 use Rattle.rc_bindings.proofs.bindings.write.Goals.{then-has, else-has}
 

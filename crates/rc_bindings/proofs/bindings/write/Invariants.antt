@@ -1,6 +1,5 @@
 use Rattle.std.proofs.Common.{◌≡◌, ◌++◌, List, ℕ, drop, length, take}
-use Rattle.rc_tuple.specs.Tuple.{project}
-use Rattle.rc_bindings.specs.Registers.{all_written}
+use Rattle.rc_bindings.proofs.Imports.{project, all_written}
 use Rattle.rc_bindings.proofs.bindings.write.Given as goal
 
 -- what was written and what is left to write is the whole

@@ -1,21 +1,5 @@
 use Rattle.std.proofs.Common.{◌≡◌, ℕ, ◌<◌, ◌↔◌, true, List, length, Some, Result, Ok, Err, refl, sym, ap, subst, ◌∙◌, arith, below_more}
-use Rattle.std.specs.List.{slice_get}
-use Rattle.std.specs.Result.{IfErr, IsOk}
-use Rattle.std.proofs.lemmas.Bool.{false≢true}
-use Rattle.std.proofs.lemmas.Option.{slice_get_read}
-use Rattle.std.proofs.lemmas.Result.{err_from_is_err_and}
-use Rattle.rc_spec.specs.declared.items.Op.{Op}
-use Rattle.rc_spec.specs.declared.spec.Spec.{Spec}
-use Rattle.rc_spec.specs.First.{EachHolds, Judges}
-use Rattle.rc_spec.specs.DecompositionLaws.{op_among}
-use Rattle.rc_spec.specs.InRange.{IsOpAmong}
-use Rattle.rc_spec.specs.Placement.{op_at}
-use Rattle.rc_plan.specs.declared.refusal.PlanRefusal.{PlanRefusal}
-use Rattle.rc_plan.specs.declared.refusal.PlanRule.TheVariants.{K1}
-use Rattle.rc_plan.specs.declared.statement.Statement.{Statement}
-use Rattle.rc_plan.specs.PlanRules.{IsComplete, IsKeptInPlan, IsKnown, after, at_start, check_at, checks_at, plan_checks, progress_at}
-use Rattle.rc_plan.specs.PlanRulesLaws.{progress_more}
-use Rattle.rc_check.specs.Sets.{sets_of}
+use Rattle.rc_check.proofs.Imports.{slice_get, IfErr, IsOk, false≢true, slice_get_read, err_from_is_err_and, Op, Spec, EachHolds, Judges, op_among, IsOpAmong, op_at, PlanRefusal, K1, Statement, IsComplete, IsKeptInPlan, IsKnown, after, at_start, check_at, checks_at, plan_checks, progress_at, progress_more, sets_of}
 use Rattle.rc_check.proofs.JudgeLemmas.{err_judged, judged_end, known_at, ok_judged, refused_statement}
 use Rattle.rc_check.proofs.check.check_plan.Goals.{After-is_complete}
 use Rattle.rc_check.proofs.check.check_plan.Goals as goal

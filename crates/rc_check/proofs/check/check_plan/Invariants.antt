@@ -1,8 +1,5 @@
 use Rattle.std.proofs.Common.{◌≡◌, ℕ, ◌<◌}
-use Rattle.rc_spec.specs.First.{EachHolds}
-use Rattle.rc_spec.specs.Placement.{op_at}
-use Rattle.rc_plan.specs.PlanRules.{IsKeptInPlan, checks_at, progress_at}
-use Rattle.rc_check.specs.Sets.{sets_of}
+use Rattle.rc_check.proofs.Imports.{EachHolds, op_at, IsKeptInPlan, checks_at, progress_at, sets_of}
 use Rattle.rc_check.proofs.check.check_plan.Given as goal
 
 abbrev pub invariant-loop-at : goal.invariant-loop-at

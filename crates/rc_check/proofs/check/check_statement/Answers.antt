@@ -1,14 +1,5 @@
 use Rattle.std.proofs.Common.{◌≡◌, ◌↔◌, true, List, length, get_or, Some, refl, sym, ap, ◌∙◌, arith}
-use Rattle.std.specs.List.{slice_get}
-use Rattle.std.proofs.lemmas.Bool.{false≢true}
-use Rattle.std.proofs.lemmas.Option.{slice_get_read}
-use Rattle.rc_spec.specs.declared.items.Op.{Op}
-use Rattle.rc_spec.specs.declared.spec.Spec.{Spec}
-use Rattle.rc_spec.specs.FirstLaws.{each_more, first_at}
-use Rattle.rc_spec.specs.Placement.{op_at}
-use Rattle.rc_plan.specs.declared.refusal.PlanRule.TheVariants.{K1}
-use Rattle.rc_plan.specs.declared.statement.Statement.{Statement}
-use Rattle.rc_plan.specs.PlanRules.{IsKeptInPlan, check_at, plan_rules, progress_at}
+use Rattle.rc_check.proofs.Imports.{slice_get, false≢true, slice_get_read, Op, Spec, each_more, first_at, op_at, K1, Statement, IsKeptInPlan, check_at, plan_rules, progress_at}
 use Rattle.rc_check.proofs.JudgeLemmas.{known_at, rule_kept}
 use Rattle.rc_check.proofs.check.check_statement.Goals.{After-index-list-at, After-keeps}
 use Rattle.rc_check.proofs.check.check_statement.Goals as goal

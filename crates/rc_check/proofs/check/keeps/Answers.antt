@@ -1,7 +1,5 @@
 use Rattle.std.proofs.Common.{◌≡◌, ◌↔◌, true, sym, subst}
-use Rattle.rc_spec.specs.declared.spec.Spec.{Spec}
-use Rattle.rc_plan.specs.declared.refusal.PlanRule.{PlanRule}
-use Rattle.rc_plan.specs.PlanRules.{KeepsK6, StatementKeeps}
+use Rattle.rc_check.proofs.Imports.{Spec, PlanRule, KeepsK6, StatementKeeps}
 use Rattle.rc_check.proofs.check.keeps.Goals as goal
 
 pub returns-in-K6 : goal.returns-in-K6

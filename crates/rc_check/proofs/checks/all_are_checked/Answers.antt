@@ -1,10 +1,5 @@
 use Rattle.std.proofs.Common.{◌≡◌, ℕ, ◌+◌, ◌<◌, List, length, refl, sym, ap, subst, ◌∙◌, inl, inr, arith}
-use Rattle.std.proofs.lemmas.Bool.{false≢true}
-use Rattle.rc_tuple.specs.RisingSetLaws.{in_has}
-use Rattle.rc_tuple.specs.ColSet.{Within, is_within}
-use Rattle.rc_tuple.specs.ColSetLaws.{within_from_test}
-use Rattle.rc_tuple.specs.declared.dep.Dep.{Dep}
-use Rattle.rc_plan.specs.Evaluation.{dep_at}
+use Rattle.rc_check.proofs.Imports.{false≢true, in_has, Within, is_within, within_from_test, Dep, dep_at}
 use Rattle.rc_check.proofs.RuleLemmas.{checked_test, dep_found, place_more, places_checked, place_unchecked}
 use Rattle.rc_check.proofs.checks.all_are_checked.Goals as goal
 use Rattle.rc_check.proofs.checks.all_are_checked.Goals.{else-not-within-via-then-not-within+else-not-has, else-not-within-via-else-not-within}

@@ -1,7 +1,5 @@
 use Rattle.std.proofs.Common.{ℕ, ◌+◌, ◌<◌, ◌⊎◌}
-use Rattle.rc_tuple.specs.RisingSet.{In}
-use Rattle.rc_tuple.specs.ColSet.{Within}
-use Rattle.rc_plan.specs.Evaluation.{dep_at}
+use Rattle.rc_check.proofs.Imports.{In, Within, dep_at}
 use Rattle.rc_check.proofs.checks.all_are_checked.Given as goal
 
 abbrev pub invariant-loop-place : goal.invariant-loop-place

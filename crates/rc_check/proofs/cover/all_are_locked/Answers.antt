@@ -1,9 +1,5 @@
 use Rattle.std.proofs.Common.{◌≡◌, ◌<◌, ◌↔◌, List, true, length, sym, ap, subst, ◌∙◌, arith, below_more}
-use Rattle.std.proofs.lemmas.Bool.{false≢true}
-use Rattle.rc_spec.specs.declared.items.Edge.{Edge}
-use Rattle.rc_spec.specs.declared.spec.Spec.{Spec}
-use Rattle.rc_spec.specs.Placement.{class_of}
-use Rattle.rc_plan.specs.PlanRules.{IsLocked}
+use Rattle.rc_check.proofs.Imports.{false≢true, Edge, Spec, class_of, IsLocked}
 use Rattle.rc_check.proofs.cover.all_are_locked.Goals as goal
 
 pub returns-then-not-has_locked : goal.returns-then-not-has_locked

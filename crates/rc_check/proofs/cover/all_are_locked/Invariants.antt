@@ -1,7 +1,5 @@
 use Rattle.std.proofs.Common.{◌≡◌, ℕ, ◌<◌}
-use Rattle.rc_spec.specs.Placement.{class_of}
-use Rattle.rc_plan.specs.PlanRules.{Progress, IsLocked}
-use Rattle.rc_check.specs.Sets.{sets_of}
+use Rattle.rc_check.proofs.Imports.{class_of, Progress, IsLocked, sets_of}
 use Rattle.rc_check.proofs.cover.all_are_locked.Given as goal
 
 abbrev pub invariant-loop-edge : goal.invariant-loop-edge

@@ -1,6 +1,5 @@
 use Rattle.std.proofs.Common.{◌≡◌, ◌↔◌, true, sym, subst}
-use Rattle.rc_spec.specs.declared.items.OpKind.{OpKind}
-use Rattle.rc_plan.specs.PlanRules.{CoversOld}
+use Rattle.rc_check.proofs.Imports.{OpKind, CoversOld}
 use Rattle.rc_check.proofs.cover.covers_old.Goals as goal
 
 pub returns-in-Update : goal.returns-in-Update

@@ -1,6 +1,5 @@
 use Rattle.std.proofs.Common.{refl, sym, ◌∙◌}
-use Rattle.std.proofs.lemmas.Bool.{false≢true}
-use Rattle.rc_spec.specs.Placement.{class_at}
+use Rattle.rc_check.proofs.Imports.{false≢true, class_at}
 use Rattle.rc_check.proofs.RuleLemmas.{keyed_test, within_test}
 use Rattle.rc_check.proofs.cover.has_old_stripe.Goals as goal
 

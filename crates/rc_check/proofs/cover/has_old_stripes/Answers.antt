@@ -1,13 +1,6 @@
 use Rattle.std.proofs.Common.{◌≡◌, ◌<◌, ◌↔◌, ℕ, List, true, length, refl, sym, ap, subst, ◌∙◌, arith, below_more}
-use Rattle.std.proofs.lemmas.Bool.{false≢true}
-use Rattle.rc_tuple.specs.RisingSet.{In}
-use Rattle.rc_tuple.specs.ColSet.{Within}
-use Rattle.rc_spec.specs.declared.items.Edge.{Edge}
-use Rattle.rc_spec.specs.declared.spec.Spec.{Spec}
-use Rattle.rc_spec.specs.InRange.{IsOpAmong}
-use Rattle.rc_spec.specs.Placement.{class_at, class_of}
+use Rattle.rc_check.proofs.Imports.{false≢true, In, Within, Edge, Spec, IsOpAmong, class_at, class_of, Progress}
 use Rattle.rc_plan.specs.declared.statement.Which.TheVariants as which
-use Rattle.rc_plan.specs.PlanRules.{Progress}
 use Rattle.rc_check.proofs.cover.has_old_stripes.Goals as goal
 
 pub pattern_of-pattern-requires-clause-known : goal.pattern_of-pattern-requires-clause-known

@@ -1,10 +1,6 @@
 use Rattle.std.proofs.Common.{◌≡◌, ℕ, ◌<◌}
-use Rattle.rc_tuple.specs.RisingSet.{In}
-use Rattle.rc_tuple.specs.ColSet.{Within}
-use Rattle.rc_spec.specs.Placement.{class_at, class_of}
+use Rattle.rc_check.proofs.Imports.{In, Within, class_at, class_of, Progress, sets_of}
 use Rattle.rc_plan.specs.declared.statement.Which.TheVariants as which
-use Rattle.rc_plan.specs.PlanRules.{Progress}
-use Rattle.rc_check.specs.Sets.{sets_of}
 use Rattle.rc_check.proofs.cover.has_old_stripes.Given as goal
 
 abbrev pub invariant-loop-edge : goal.invariant-loop-edge

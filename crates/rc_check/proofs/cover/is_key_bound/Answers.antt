@@ -1,5 +1,4 @@
-use Rattle.std.proofs.Common.{ap}
-use Rattle.rc_check.specs.declared.progress.ProgressSets.{ProgressSets}
+use Rattle.rc_check.proofs.Imports.{ap, ProgressSets}
 use Rattle.rc_check.proofs.RuleLemmas.{key_bound}
 use Rattle.rc_check.proofs.cover.is_key_bound.Goals as goal
 

@@ -1,6 +1,5 @@
 use Rattle.std.proofs.Common.{refl, sym, ◌∙◌}
-use Rattle.std.proofs.lemmas.Bool.{false≢true}
-use Rattle.rc_plan.specs.PlanRules.{pattern_columns}
+use Rattle.rc_check.proofs.Imports.{false≢true, pattern_columns}
 use Rattle.rc_check.proofs.RuleLemmas.{within_test}
 use Rattle.rc_check.proofs.found.has_found_answer.Goals as goal
 

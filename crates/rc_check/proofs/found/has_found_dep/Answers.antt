@@ -1,10 +1,5 @@
 use Rattle.std.proofs.Common.{◌≡◌, ℕ, ◌-◌, ◌↔◌, true, Some, sym, ap, subst, ◌∙◌, arith}
-use Rattle.std.proofs.lemmas.Bool.{false≢true}
-use Rattle.rc_tuple.specs.ColSet.{Within}
-use Rattle.rc_tuple.specs.declared.dep.Dep.{Dep}
-use Rattle.rc_spec.specs.DecompositionLaws.{at_found}
-use Rattle.rc_plan.specs.Evaluation.{dep_at, no_dep}
-use Rattle.rc_check.specs.declared.progress.ProgressSets.{ProgressSets}
+use Rattle.rc_check.proofs.Imports.{false≢true, Within, Dep, at_found, dep_at, no_dep, ProgressSets}
 use Rattle.rc_check.proofs.RuleLemmas.{within_test}
 use Rattle.rc_check.proofs.found.has_found_dep.Goals as goal
 

@@ -1,7 +1,5 @@
 use Rattle.std.proofs.Common.{◌≡◌, ◌↔◌, true, List, ℕ, Some, ap, subst, sym, ◌∙◌}
-use Rattle.std.proofs.lemmas.Bool.{false≢true}
-use Rattle.rc_spec.specs.Calls.{all_columns}
-use Rattle.rc_check.specs.declared.progress.ProgressSets.{ProgressSets}
+use Rattle.rc_check.proofs.Imports.{false≢true, all_columns, ProgressSets}
 use Rattle.rc_check.proofs.RuleLemmas.{within_test}
 use Rattle.rc_check.proofs.found.has_found_tuple.Goals as goal
 

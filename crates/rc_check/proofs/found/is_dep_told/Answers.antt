@@ -1,6 +1,5 @@
 use Rattle.std.proofs.Common.{◌≡◌, ◌↔◌, true, List, ℕ, ap, subst}
-use Rattle.rc_plan.specs.PlanRules.{TellsOld}
-use Rattle.rc_check.specs.declared.progress.ProgressSets.{ProgressSets}
+use Rattle.rc_check.proofs.Imports.{TellsOld, ProgressSets}
 use Rattle.rc_check.proofs.found.is_dep_told.Goals as goal
 
 pub returns-then-has_found_dep : goal.returns-then-has_found_dep

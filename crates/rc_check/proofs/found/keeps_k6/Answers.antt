@@ -1,9 +1,5 @@
 use Rattle.std.proofs.Common.{◌≡◌, ◌↔◌, true, List, ℕ, Some, sym, ap, subst}
-use Rattle.rc_tuple.specs.ColSet.{Within}
-use Rattle.rc_spec.specs.Ranges.{range_columns}
-use Rattle.rc_plan.specs.declared.statement.Statement.{Statement}
-use Rattle.rc_plan.specs.PlanRules.{KeepsK6, OutputsAreVisited, pattern_columns}
-use Rattle.rc_check.specs.declared.progress.ProgressSets.{ProgressSets}
+use Rattle.rc_check.proofs.Imports.{Within, range_columns, Statement, KeepsK6, OutputsAreVisited, pattern_columns, ProgressSets}
 use Rattle.rc_check.proofs.found.keeps_k6.Goals as goal
 
 pub returns-in-Emit : goal.returns-in-Emit

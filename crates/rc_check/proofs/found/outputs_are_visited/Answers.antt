@@ -1,7 +1,5 @@
 use Rattle.std.proofs.Common.{◌<◌, length, ap, ◌∙◌, subst, arith}
-use Rattle.std.specs.Ordering.{nat_cmp}
-use Rattle.rc_tuple.specs.RisingSet.{In, gather}
-use Rattle.rc_spec.specs.InRange.{HasOutsAmong}
+use Rattle.rc_check.proofs.Imports.{nat_cmp, In, gather, HasOutsAmong}
 use Rattle.rc_check.proofs.RuleLemmas.{outputs_visited}
 use Rattle.rc_check.proofs.found.outputs_are_visited.Goals as goal
 

@@ -1,8 +1,5 @@
 use Rattle.std.proofs.Common.{◌<◌, length, ap, ◌∙◌, subst, arith}
-use Rattle.std.specs.Ordering.{nat_cmp}
-use Rattle.rc_tuple.specs.RisingSet.{In, gather}
-use Rattle.rc_spec.specs.InRange.{AreBelow}
-use Rattle.rc_spec.specs.Ranges.{range_columns}
+use Rattle.rc_check.proofs.Imports.{nat_cmp, In, gather, AreBelow, range_columns}
 use Rattle.rc_check.proofs.RuleLemmas.{ranges_visited}
 use Rattle.rc_check.proofs.found.ranges_are_visited.Goals as goal
 

@@ -1,8 +1,5 @@
 use Rattle.std.proofs.Common.{◌≡◌, ◌↔◌, true, List, ℕ, ap, subst}
-use Rattle.rc_fd.specs.FollowsLaws.{lossless_at}
-use Rattle.rc_spec.specs.Decomposition.{bound}
-use Rattle.rc_plan.specs.PlanRules.{IsFindable}
-use Rattle.rc_check.specs.declared.progress.ProgressSets.{ProgressSets}
+use Rattle.rc_check.proofs.Imports.{lossless_at, bound, IsFindable, ProgressSets}
 use Rattle.rc_check.proofs.steps.can_be_joined.Goals as goal
 
 pub returns-then-is_findable : goal.returns-then-is_findable

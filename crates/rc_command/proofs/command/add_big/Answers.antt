@@ -1,7 +1,5 @@
 use Rattle.std.proofs.Common.{◌≡◌, ◌∙◌, rules, ap, ap₂, codes}
-use Rattle.std.proofs.lemmas.Result.{IfOk-weaker}
-use Rattle.clap.specs.Words.{App, Shape, app_of, rule_of, with_rule, with_subcommand}
-use Rattle.rc_command.specs.Grammar.{big_app, required_word}
+use Rattle.rc_command.proofs.Imports.{IfOk-weaker, App, Shape, app_of, rule_of, with_rule, with_subcommand, big_app, required_word}
 use Rattle.rc_command.proofs.command.add_big.Goals as goal
 
 pub returns : goal.returns

@@ -1,7 +1,5 @@
 use Rattle.std.proofs.Common.{◌≡◌, ◌∙◌, rules, ap, ap₂, codes}
-use Rattle.std.proofs.lemmas.Result.{IfOk-weaker}
-use Rattle.clap.specs.Words.{App, Shape, app_of, new_rule, rule_of, with_rule, with_subcommand}
-use Rattle.rc_command.specs.Grammar.{dot_app}
+use Rattle.rc_command.proofs.Imports.{IfOk-weaker, App, Shape, app_of, new_rule, rule_of, with_rule, with_subcommand, dot_app}
 use Rattle.rc_command.proofs.command.add_dot.Goals as goal
 
 pub returns : goal.returns

@@ -1,8 +1,5 @@
 use Rattle.std.proofs.Common.{◌∙◌, List, ℕ, codes, sym, ap, ap₂}
-use Rattle.std.proofs.lemmas.Result.{IfOk-weaker}
-use Rattle.clap.specs.Words.{found_of, rows_of}
-use Rattle.clap.proofs.WalkLemmas.{first_value-rows}
-use Rattle.rc_command.specs.Grammar.{audit_words, big_words, dot_words, met_as}
+use Rattle.rc_command.proofs.Imports.{IfOk-weaker, found_of, rows_of, first_value-rows, audit_words, big_words, dot_words, met_as}
 use Rattle.rc_command.proofs.command.command_behind.Goals as goal
 
 pub returns-in-big-clause-value : goal.returns-in-big-clause-value

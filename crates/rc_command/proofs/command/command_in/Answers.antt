@@ -1,9 +1,5 @@
 use Rattle.std.proofs.Common.{◌≡◌, ◌∙◌, false, sym, ap, map, string_bytes, [], drop, ⊎_elim}
-use Rattle.std.proofs.lemmas.List.{drop-map, take_rest}
-use Rattle.std.proofs.lemmas.Result.{IfOk-weaker}
-use Rattle.std.specs.List.{list_any}
-use Rattle.clap.specs.Words.{app_of, is_simple, fault_of, is_simple_and_free, kind_of}
-use Rattle.rc_command.specs.Grammar.{grammar, is_flag}
+use Rattle.rc_command.proofs.Imports.{drop-map, take_rest, IfOk-weaker, list_any, app_of, is_simple, fault_of, is_simple_and_free, kind_of, grammar, is_flag}
 use Rattle.rc_command.proofs.WordLemmas.{taken_by, refused_by}
 use Rattle.rc_command.proofs.command.command_in.Goals as goal
 

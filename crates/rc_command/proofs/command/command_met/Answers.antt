@@ -1,6 +1,5 @@
 use Rattle.std.proofs.Common.{◌∙◌}
-use Rattle.std.proofs.lemmas.Result.{IfOk-weaker}
-use Rattle.clap.specs.Words.{found_of, rows_of}
+use Rattle.rc_command.proofs.Imports.{IfOk-weaker, found_of, rows_of}
 use Rattle.rc_command.proofs.WordLemmas.{met_is}
 use Rattle.rc_command.proofs.command.command_met.Goals as goal
 

@@ -1,6 +1,5 @@
 use Rattle.std.proofs.Common.{◌≡◌, drop, map, string_bytes}
-use Rattle.std.specs.List.{list_any}
-use Rattle.rc_command.specs.Grammar.{is_flag}
+use Rattle.rc_command.proofs.Imports.{list_any, is_flag}
 use Rattle.rc_command.proofs.command.has_flag.Given as goal
 
 abbrev pub invariant-loop-word : goal.invariant-loop-word

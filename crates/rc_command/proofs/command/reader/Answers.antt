@@ -1,7 +1,5 @@
 use Rattle.std.proofs.Common.{◌≡◌, ◌∙◌, rules, ap, ap₂}
-use Rattle.std.proofs.lemmas.Result.{IfOk-weaker}
-use Rattle.clap.specs.Words.{App, app_of, with_subcommand}
-use Rattle.rc_command.specs.Grammar.{audit_app, big_app, dot_app, program, program_making}
+use Rattle.rc_command.proofs.Imports.{IfOk-weaker, App, app_of, with_subcommand, audit_app, big_app, dot_app, program, program_making}
 use Rattle.rc_command.proofs.command.reader.Goals as goal
 
 pub returns : goal.returns

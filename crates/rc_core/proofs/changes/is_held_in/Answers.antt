@@ -1,8 +1,5 @@
 use Rattle.std.proofs.Common.{◌≡◌, sym, ap, ◌∙◌, ◌&&◌, ◌==◌}
-use Rattle.std.specs.List.{list_any}
-use Rattle.rc_tuple.specs.ColSet.{has}
-use Rattle.rc_tuple.specs.RisingSetLaws.{in_has, has_in}
-use Rattle.rc_core.specs.State.{is_mode, held_in, stripes_in}
+use Rattle.rc_core.proofs.Imports.{list_any, has, in_has, has_in, is_mode, held_in, stripes_in}
 use Rattle.rc_core.proofs.HoldLemmas.{held_test}
 use Rattle.rc_core.proofs.changes.is_held_in.Goals as goal
 

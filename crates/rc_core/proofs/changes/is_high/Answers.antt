@@ -1,6 +1,5 @@
 use Rattle.std.proofs.Common.{◌≡◌, sym, ap, ◌∙◌}
-use Rattle.std.specs.Prelude.{nat_lt}
-use Rattle.std.specs.List.{list_all}
+use Rattle.rc_core.proofs.Imports.{nat_lt, list_all}
 use Rattle.rc_core.proofs.HoldLemmas.{above_test, test_above}
 use Rattle.rc_core.proofs.changes.is_high.Goals as goal
 

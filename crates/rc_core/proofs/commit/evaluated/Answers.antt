@@ -1,17 +1,5 @@
 use Rattle.std.proofs.Common.{◌≡◌, ℕ, suc, ◌+◌, ◌-◌, ◌<◌, ◌∷◌, List, Some, length, drop, subst, sym, ap, ◌∙◌, arith}
-use Rattle.std.proofs.lemmas.List.{drop_more}
-use Rattle.rc_tuple.specs.RisingSet.{In}
-use Rattle.rc_tuple.specs.RisingSetLaws.{each_in, get_or_in}
-use Rattle.rc_spec.specs.Calls.{Fits}
-use Rattle.rc_spec.specs.Fragments.{EdgeRow}
-use Rattle.rc_plan.specs.Compiled.{SpecWithPlans, plan_at}
-use Rattle.rc_plan.specs.Evaluation.{RunState, eval}
-use Rattle.rc_plan.specs.Turns.{rows_after}
-use Rattle.rc_spec.specs.Locks.{StripeLock}
-use Rattle.rc_plan.specs.StripeLocks.{AreHeld, stripes_of}
-use Rattle.rc_rel.specs.declared.entry.Step.{Step}
-use Rattle.rc_core.specs.Passes.{calls_with_plans}
-use Rattle.rc_core.specs.Commits.{AreOf, Evaluates}
+use Rattle.rc_core.proofs.Imports.{drop_more, In, each_in, get_or_in, Fits, EdgeRow, SpecWithPlans, plan_at, RunState, eval, rows_after, StripeLock, AreHeld, stripes_of, Step, calls_with_plans, AreOf, Evaluates}
 use Rattle.rc_core.proofs.EvaluatesLemmas.{others_evaluate, all_evaluate, rows_small, of_next}
 use Rattle.rc_core.proofs.commit.evaluated.Goals as goal
 

@@ -1,8 +1,5 @@
 use Rattle.std.proofs.Common.{◌≡◌, ◌-◌, ◌↔◌, drop, length}
-use Rattle.rc_plan.specs.Turns.{rows_after}
-use Rattle.rc_plan.specs.StripeLocks.{stripes_of}
-use Rattle.rc_core.specs.Passes.{calls_with_plans}
-use Rattle.rc_core.specs.Commits.{AreOf, Evaluates}
+use Rattle.rc_core.proofs.Imports.{rows_after, stripes_of, calls_with_plans, AreOf, Evaluates}
 use Rattle.rc_core.proofs.commit.evaluated.Given as goal
 
 abbrev pub invariant-loop-step : goal.invariant-loop-step

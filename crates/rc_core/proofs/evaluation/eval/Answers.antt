@@ -1,14 +1,5 @@
 use Rattle.std.proofs.Common.{◌≡◌, ◌+◌, ◌<◌, ◌∷◌, List, drop, length, subst, sym, ap, ◌∙◌, arith}
-use Rattle.std.specs.Option.{is_some}
-use Rattle.std.proofs.lemmas.List.{drop_more}
-use Rattle.rc_tuple.specs.RisingSet.{In}
-use Rattle.rc_tuple.specs.RisingSetLaws.{get_or_in}
-use Rattle.rc_spec.specs.Acceptance.{IsSealed}
-use Rattle.rc_spec.specs.Fragments.{EdgeRow}
-use Rattle.rc_spec.specs.declared.spec.Spec.{Spec}
-use Rattle.rc_plan.specs.PlanRules.{IsKnown}
-use Rattle.rc_plan.specs.declared.statement.Statement.{Statement}
-use Rattle.rc_plan.specs.Evaluation.{RunState, run}
+use Rattle.rc_core.proofs.Imports.{is_some, drop_more, In, get_or_in, IsSealed, EdgeRow, Spec, IsKnown, Statement, RunState, run}
 use Rattle.rc_core.proofs.StayLemmas.{next_stays}
 use Rattle.rc_core.proofs.evaluation.eval.Goals as goal
 

@@ -1,6 +1,5 @@
 use Rattle.std.proofs.Common.{◌≡◌, drop, false}
-use Rattle.std.specs.Option.{is_some}
-use Rattle.rc_plan.specs.Evaluation.{run, begun}
+use Rattle.rc_core.proofs.Imports.{is_some, run, begun}
 use Rattle.rc_core.proofs.evaluation.eval.Given as goal
 
 abbrev pub invariant-loop-statement : goal.invariant-loop-statement

@@ -1,7 +1,5 @@
 use Rattle.std.proofs.Common.{◌≡◌, List, ap, subst}
-use Rattle.rc_tuple.specs.RisingSet.{In}
-use Rattle.rc_spec.specs.Fragments.{EdgeRow}
-use Rattle.rc_plan.specs.Evaluation.{RunState}
+use Rattle.rc_core.proofs.Imports.{In, EdgeRow, RunState}
 use Rattle.rc_core.proofs.evaluation.insert.Goals as goal
 
 pub with_rows-requires-clause-small : goal.with_rows-requires-clause-small

@@ -1,6 +1,5 @@
 use Rattle.std.proofs.Common.{◌≡◌, ◌++◌, drop}
-use Rattle.std.specs.List.{flat_map}
-use Rattle.rc_tuple.specs.Tuple.{merges_of}
+use Rattle.rc_core.proofs.Imports.{flat_map, merges_of}
 use Rattle.rc_core.proofs.evaluation.join.Given as goal
 
 -- what was merged and what is left to merge is the whole

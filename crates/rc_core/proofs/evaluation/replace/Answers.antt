@@ -1,7 +1,5 @@
 use Rattle.std.proofs.Common.{◌≡◌, ◌<◌, ◌^◌, List, ap, subst, arith}
-use Rattle.rc_tuple.specs.RisingSet.{In}
-use Rattle.rc_spec.specs.Fragments.{EdgeRow, edge_numbers}
-use Rattle.rc_plan.specs.Evaluation.{RunState}
+use Rattle.rc_core.proofs.Imports.{In, EdgeRow, edge_numbers, RunState}
 use Rattle.rc_core.proofs.EdgeRowLemmas.{all_lowered_small}
 use Rattle.rc_core.proofs.evaluation.replace.Goals as goal
 

@@ -1,7 +1,5 @@
 use Rattle.std.proofs.Common.{◌≡◌, sym, ap, ◌∙◌}
-use Rattle.std.specs.List.{list_all}
-use Rattle.rc_core.specs.State.{locks_of}
-use Rattle.rc_core.specs.Commits.{is_of_class_locked}
+use Rattle.rc_core.proofs.Imports.{list_all, locks_of, is_of_class_locked}
 use Rattle.rc_core.proofs.LockLemmas.{one_holds_no_more, several_hold_no_more}
 use Rattle.rc_core.proofs.no_more.holds_no_more.Goals as goal
 

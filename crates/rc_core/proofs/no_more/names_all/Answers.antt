@@ -1,8 +1,4 @@
-use Rattle.std.proofs.Common.{List, subst}
-use Rattle.rc_tuple.specs.RisingSet.{In}
-use Rattle.rc_spec.specs.Fragments.{EdgeRow}
-use Rattle.rc_plan.specs.StripeLocks.{stripes_of}
-use Rattle.rc_core.specs.State.{locks_of, rows_held}
+use Rattle.rc_core.proofs.Imports.{List, subst, In, EdgeRow, stripes_of, locks_of, rows_held}
 use Rattle.rc_core.proofs.EvaluatesLemmas.{rows_small}
 use Rattle.rc_core.proofs.no_more.names_all.Goals as goal
 

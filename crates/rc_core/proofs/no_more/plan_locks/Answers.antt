@@ -1,11 +1,5 @@
 use Rattle.std.proofs.Common.{rules, subst, sym, tests, ◌∙◌}
-use Rattle.std.proofs.lemmas.Iterator.{YieldsList-from_slice}
-use Rattle.std.proofs.lemmas.Iterator.Adapters.{serves_from_places}
-use Rattle.rc_tuple.specs.RisingSet.{In}
-use Rattle.rc_tuple.specs.RisingSetLaws.{get_or_in}
-use Rattle.rc_spec.specs.declared.spec.Spec.{Spec}
-use Rattle.rc_plan.specs.PlanRules.{IsKnown}
-use Rattle.rc_plan.specs.declared.statement.Statement.{Statement}
+use Rattle.rc_core.proofs.Imports.{YieldsList-from_slice, serves_from_places, In, get_or_in, Spec, IsKnown, Statement}
 use Rattle.rc_core.proofs.no_more.plan_locks.Goals as goal
 
 pub any-requires : goal.any-requires

@@ -1,6 +1,5 @@
 use Rattle.std.proofs.Common.{◌<◌, length, sym, subst}
-use Rattle.rc_spec.specs.Fragments.{EdgeRow}
-use Rattle.rc_spec.specs.PlacementLaws.{class_of_known}
+use Rattle.rc_core.proofs.Imports.{EdgeRow, class_of_known}
 use Rattle.rc_core.proofs.rows.row_stripe.Goals as goal
 
 pub physical_stripe-requires-clause-known : goal.physical_stripe-requires-clause-known

@@ -1,8 +1,5 @@
 use Rattle.std.proofs.Common.{◌≡◌, ◌+◌, ◌^◌, length, arith, ap, ◌∙◌, subst}
-use Rattle.rc_tuple.specs.RisingSet.{In}
-use Rattle.rc_spec.specs.CountedRows.{raised, row_in}
-use Rattle.rc_spec.specs.declared.items.Edge.{Edge}
-use Rattle.std.proofs.Common.{List}
+use Rattle.rc_core.proofs.Imports.{In, raised, row_in, Edge, List}
 use Rattle.rc_core.proofs.EdgeRowLemmas.{count_below, small_more, all_raised_more}
 use Rattle.rc_core.proofs.rows.with_rows.Goals as goal
 

@@ -1,10 +1,5 @@
 use Rattle.std.proofs.Common.{◌≡◌, ◌+◌, ◌∷◌, List, ℕ, drop, IfSome, sym, subst, ap, ◌∙◌}
-use Rattle.std.proofs.lemmas.List.{drop_more}
-use Rattle.rc_plan.specs.Compiled.{SpecWithPlans}
-use Rattle.rc_core.specs.declared.state.CoreState.{CoreState}
-use Rattle.rc_core.specs.declared.event.Event.{Event}
-use Rattle.rc_core.specs.Events.{IsAllowed, IsAfter, after, AreAllowed, after_all}
-use Rattle.rc_core.specs.Good.{IsGood}
+use Rattle.rc_core.proofs.Imports.{drop_more, SpecWithPlans, CoreState, Event, IsAllowed, IsAfter, after, AreAllowed, after_all, IsGood}
 use Rattle.rc_core.proofs.running.run_events.Goals as goal
 
 pub loop-event-preserved : goal.loop-event-preserved

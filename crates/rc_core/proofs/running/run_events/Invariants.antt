@@ -1,6 +1,5 @@
 use Rattle.std.proofs.Common.{◌≡◌, ◌↔◌, drop}
-use Rattle.rc_core.specs.Good.{IsGood}
-use Rattle.rc_core.specs.Events.{AreAllowed, after_all}
+use Rattle.rc_core.proofs.Imports.{IsGood, AreAllowed, after_all}
 use Rattle.rc_core.proofs.running.run_events.Given as goal
 
 abbrev pub invariant-loop-event : goal.invariant-loop-event

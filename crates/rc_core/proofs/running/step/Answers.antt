@@ -1,9 +1,4 @@
-use Rattle.std.proofs.Common.{IfSome}
-use Rattle.std.proofs.lemmas.Result.{IfOk-weaker}
-use Rattle.rc_plan.specs.Compiled.{SpecWithPlans, IsCompiled}
-use Rattle.rc_core.specs.Events.{IsAllowed, IsAfter, after}
-use Rattle.rc_core.specs.Good.{IsGood}
-use Rattle.rc_core.specs.RunLaws.{next_is_good}
+use Rattle.rc_core.proofs.Imports.{IfSome, IfOk-weaker, SpecWithPlans, IsCompiled, IsAllowed, IsAfter, after, IsGood, next_is_good}
 use Rattle.rc_core.proofs.running.step.Goals as goal
 
 pub returns-clause-good : goal.returns-clause-good

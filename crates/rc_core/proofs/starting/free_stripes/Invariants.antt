@@ -1,6 +1,5 @@
 use Rattle.std.proofs.Common.{◌≡◌}
-use Rattle.std.specs.Prelude.{replicate}
-use Rattle.rc_core.specs.State.{no_stripe}
+use Rattle.rc_core.proofs.Imports.{replicate, no_stripe}
 use Rattle.rc_core.proofs.starting.free_stripes.Given as goal
 
 abbrev pub invariant-loop-number : goal.invariant-loop-number

@@ -1,8 +1,5 @@
 use Rattle.std.proofs.Common.{◌≡◌, ℕ, ◌+◌, ◌∷◌, ◌++◌, [], arith, map, sym, ap, ◌∙◌}
-use Rattle.std.proofs.lemmas.List.{map-append}
-use Rattle.std.specs.List.{range_with_len}
-use Rattle.rc_tuple.specs.ColSetLaws.{range_with_len_more}
-use Rattle.rc_core.specs.State.{fresh}
+use Rattle.rc_core.proofs.Imports.{map-append, range_with_len, range_with_len_more, fresh}
 use Rattle.rc_core.proofs.starting.fresh_passes.Goals as goal
 
 pub loop-number-preserved : goal.loop-number-preserved

@@ -1,6 +1,5 @@
 use Rattle.std.proofs.Common.{◌≡◌, map}
-use Rattle.std.specs.List.{range_with_len}
-use Rattle.rc_core.specs.State.{fresh}
+use Rattle.rc_core.proofs.Imports.{range_with_len, fresh}
 use Rattle.rc_core.proofs.starting.fresh_passes.Given as goal
 
 abbrev pub invariant-loop-number : goal.invariant-loop-number

@@ -1,14 +1,5 @@
 use Rattle.std.proofs.Common.{◌≡◌, ◌∷◌, ◌++◌, [], Some, length, ap, ◌∙◌}
-use Rattle.std.specs.List.{slice_get}
-use Rattle.std.proofs.lemmas.Option.{slice_get-get_or}
-use Rattle.rc_plan.specs.StripeLocks.{stripes_of}
-use Rattle.rc_rel.specs.declared.entry.Entry.{Entry}
-use Rattle.rc_rel.specs.History.{replay}
-use Rattle.rc_core.specs.declared.state.PassState.{PassState}
-use Rattle.rc_core.specs.State.{no_pass, pass_at, locks_of}
-use Rattle.rc_core.specs.Passes.{committed}
-use Rattle.rc_core.specs.Events.{with_pass}
-use Rattle.rc_core.specs.CommitLaws.{rows_then_are}
+use Rattle.rc_core.proofs.Imports.{slice_get, slice_get-get_or, stripes_of, Entry, replay, PassState, no_pass, pass_at, locks_of, committed, with_pass, rows_then_are}
 use Rattle.rc_core.proofs.CommitLemmas.{if_ok}
 use Rattle.rc_core.proofs.EvaluatesLemmas.{rows_known}
 use Rattle.rc_core.proofs.stepping.after_commit.Goals as goal

@@ -1,6 +1,5 @@
 use Rattle.std.proofs.Common.{◌≡◌, ◌++◌, take, drop}
-use Rattle.std.specs.Ordering.{nat_cmp}
-use Rattle.rc_tuple.specs.RisingSet.{put}
+use Rattle.rc_core.proofs.Imports.{nat_cmp, put}
 use Rattle.rc_core.proofs.stripe_changes.place_of.Given as goal
 
 abbrev pub invariant-loop-at : goal.invariant-loop-at

@@ -1,9 +1,5 @@
 use Rattle.std.proofs.Common.{◌≡◌, ◌==◌, sym, ap, ◌∙◌, subst}
-use Rattle.std.specs.List.{list_any}
-use Rattle.rc_tuple.specs.RisingSet.{In}
-use Rattle.rc_tuple.specs.ColSet.{has}
-use Rattle.rc_tuple.specs.RisingSetLaws.{in_has, has_in}
-use Rattle.rc_core.specs.State.{stripes_in}
+use Rattle.rc_core.proofs.Imports.{list_any, In, has, in_has, has_in, stripes_in}
 use Rattle.rc_core.proofs.HoldLemmas.{stripe_test, same_some}
 use Rattle.rc_core.proofs.waiting.wants_of.Goals as goal
 

@@ -1,6 +1,5 @@
 use Rattle.std.proofs.Common.{◌≡◌, ◌++◌}
-use Rattle.std.specs.List.{flat_map, range_with_len}
-use Rattle.rc_dot.specs.Dot.{edge_line}
+use Rattle.rc_dot.proofs.Imports.{flat_map, range_with_len, edge_line}
 use Rattle.rc_dot.proofs.graph.push_edges.Given as goal
 
 abbrev pub invariant-loop-edge : goal.invariant-loop-edge

@@ -1,7 +1,4 @@
-use Rattle.std.proofs.Common.{List, sym, subst}
-use Rattle.rc_tuple.specs.RisingSet.{In}
-use Rattle.rc_tuple.specs.RisingSetLaws.{get_or_in}
-use Rattle.rc_spec.specs.declared.items.Node.{Node}
+use Rattle.rc_dot.proofs.Imports.{List, sym, subst, In, get_or_in, Node}
 use Rattle.rc_dot.proofs.graph.push_nodes.Goals as goal
 
 pub push_node-requires : goal.push_node-requires

@@ -1,6 +1,5 @@
 use Rattle.std.proofs.Common.{◌≡◌, ◌++◌, take}
-use Rattle.std.specs.List.{flat_map}
-use Rattle.rc_dot.specs.Dot.{node_line}
+use Rattle.rc_dot.proofs.Imports.{flat_map, node_line}
 use Rattle.rc_dot.proofs.graph.push_nodes.Given as goal
 
 abbrev pub invariant-loop-node : goal.invariant-loop-node

@@ -1,6 +1,5 @@
 use Rattle.std.proofs.Common.{◌≡◌, ◌++◌, take}
-use Rattle.std.specs.List.{flat_map}
-use Rattle.rc_dot.specs.Dot.{number_text}
+use Rattle.rc_dot.proofs.Imports.{flat_map, number_text}
 use Rattle.rc_dot.proofs.graph.push_numbers.Given as goal
 
 abbrev pub invariant-loop-number : goal.invariant-loop-number

@@ -1,7 +1,5 @@
 use Rattle.std.proofs.Common.{◌≡◌, ◌∙◌, ℕ, get_or, ap, sym, refl, Vec, Global}
-use Rattle.rc_spec.specs.DecompositionLaws.{at_found}
-use Rattle.rc_plan.specs.declared.statement.Statement.{Statement}
-use Rattle.rc_plan.specs.declared.statement.Statement.TheVariants.{Commit}
+use Rattle.rc_dot.proofs.Imports.{at_found, Statement, Commit}
 use Rattle.rc_dot.proofs.DotLemmas.{numbers_with, numbers_without}
 use Rattle.rc_dot.proofs.reading.read_numbers.Goals as goal
 use Rattle.rc_dot.proofs.reading.read_numbers.Goals.{then-is_read_of+in_ok-push, else-is_read_of}

@@ -1,7 +1,5 @@
 use Rattle.std.proofs.Common.{◌≡◌, filter, get_or}
-use Rattle.std.specs.List.{range_with_len}
-use Rattle.rc_plan.specs.declared.statement.Statement.TheVariants.{Commit}
-use Rattle.rc_plan.specs.Access.{is_read_of}
+use Rattle.rc_dot.proofs.Imports.{range_with_len, Commit, is_read_of}
 use Rattle.rc_dot.proofs.reading.read_numbers.Given as goal
 
 abbrev pub invariant-loop-place : goal.invariant-loop-place

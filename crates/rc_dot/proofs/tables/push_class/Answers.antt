@@ -1,8 +1,5 @@
 use Rattle.std.proofs.Common.{◌≡◌, ◌∙◌, ◌++◌, ap, codes}
-use Rattle.std.proofs.lemmas.Result.{on_ok_weaker}
-use Rattle.rc_spec.specs.declared.items.Class.{Class}
-use Rattle.rc_spec.specs.Placement.{class_at}
-use Rattle.rc_dot.specs.Dot.{colour_of}
+use Rattle.rc_dot.proofs.Imports.{on_ok_weaker, Class, class_at, colour_of}
 use Rattle.rc_dot.proofs.DotLemmas.{behind}
 use Rattle.rc_dot.proofs.tables.push_class.Goals as goal
 

@@ -1,6 +1,5 @@
 use Rattle.std.proofs.Common.{◌≡◌, ◌++◌}
-use Rattle.std.specs.List.{flat_map, range_with_len}
-use Rattle.rc_dot.specs.Dot.{class_line}
+use Rattle.rc_dot.proofs.Imports.{flat_map, range_with_len, class_line}
 use Rattle.rc_dot.proofs.tables.push_class_lines.Given as goal
 
 abbrev pub invariant-loop-class : goal.invariant-loop-class

@@ -1,6 +1,5 @@
 use Rattle.std.proofs.Common.{◌∙◌, ◌++◌, ap, arith, codes}
-use Rattle.std.specs.Fmt.{decimal}
-use Rattle.rc_dot.specs.Dot.{number_line}
+use Rattle.rc_dot.proofs.Imports.{decimal, number_line}
 use Rattle.rc_dot.proofs.DotLemmas.{behind, range_more}
 use Rattle.rc_dot.proofs.tables.push_number_lines.Goals as goal
 

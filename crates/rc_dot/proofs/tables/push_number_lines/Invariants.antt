@@ -1,6 +1,5 @@
 use Rattle.std.proofs.Common.{◌≡◌, ◌++◌}
-use Rattle.std.specs.List.{flat_map, range_with_len}
-use Rattle.rc_dot.specs.Dot.{number_line}
+use Rattle.rc_dot.proofs.Imports.{flat_map, range_with_len, number_line}
 use Rattle.rc_dot.proofs.tables.push_number_lines.Given as goal
 
 abbrev pub invariant-loop-place : goal.invariant-loop-place

@@ -1,7 +1,4 @@
-use Rattle.std.proofs.Common.{sym, subst}
-use Rattle.rc_tuple.specs.RisingSet.{In}
-use Rattle.rc_tuple.specs.RisingSetLaws.{get_or_in}
-use Rattle.rc_plan.specs.declared.statement.Statement.{Statement}
+use Rattle.rc_dot.proofs.Imports.{sym, subst, In, get_or_in, Statement}
 use Rattle.rc_dot.proofs.tables.push_statements.Goals as goal
 
 pub push_statement-requires : goal.push_statement-requires

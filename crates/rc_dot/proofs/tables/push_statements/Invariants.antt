@@ -1,6 +1,5 @@
 use Rattle.std.proofs.Common.{◌≡◌, ◌++◌, take}
-use Rattle.std.specs.List.{flat_map}
-use Rattle.rc_dot.specs.Dot.{statement_table_line}
+use Rattle.rc_dot.proofs.Imports.{flat_map, statement_table_line}
 use Rattle.rc_dot.proofs.tables.push_statements.Given as goal
 
 abbrev pub invariant-loop-statement : goal.invariant-loop-statement

@@ -1,6 +1,5 @@
 use Rattle.std.proofs.Common.{◌≡◌, ◌+◌, ◌-◌, ◌++◌, codes}
-use Rattle.std.specs.Fmt.{decimal}
-use Rattle.std.proofs.lemmas.Result.{on_ok_weaker}
+use Rattle.rc_dot.proofs.Imports.{decimal, on_ok_weaker}
 use Rattle.rc_dot.proofs.DotLemmas.{behind}
 use Rattle.rc_dot.proofs.tables.push_stripes.Goals as goal
 

@@ -1,11 +1,5 @@
 use Rattle.std.proofs.Common.{◌≡◌, ◌∙◌, ◌<◌, ◌++◌, Option, ℕ, get_or, length, refl, sym, ap, subst, arith}
-use Rattle.std.specs.Prelude.{IsSome}
-use Rattle.std.proofs.lemmas.Option.{slice_get-get_or}
-use Rattle.rc_tuple.specs.RisingSetLaws.{slice_get_in}
-use Rattle.rc_spec.specs.declared.items.Column.{Column}
-use Rattle.rc_spec.specs.DecompositionLaws.{at_found}
-use Rattle.rc_spec.specs.RefusalText.{no_column}
-use Rattle.rc_plan.specs.PlanText.{column_text}
+use Rattle.rc_dot.proofs.Imports.{IsSome, slice_get-get_or, slice_get_in, Column, at_found, no_column, column_text}
 use Rattle.rc_dot.proofs.DotLemmas.{columns_more, first_column}
 use Rattle.rc_dot.proofs.words.push_columns.Goals as goal
 

@@ -1,6 +1,5 @@
 use Rattle.std.proofs.Common.{◌+◌, ◌≡◌, Some, None, take, arith}
-use Rattle.rc_edges.specs.ListMap.{count_in}
-use Rattle.rc_edges.specs.ListMapLaws.{count_next}
+use Rattle.rc_edges.proofs.Imports.{count_in, count_next}
 use Rattle.rc_edges.proofs.list_map.count_rows.Goals as goal
 
 pub loop-item-preserved-in_default : goal.loop-item-preserved-in_default

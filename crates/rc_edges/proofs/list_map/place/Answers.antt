@@ -1,9 +1,5 @@
 use Rattle.std.proofs.Common.{◌≡◌, length, sym, ap, subst, ◌∙◌, arith}
-use Rattle.std.proofs.lemmas.List.{drop_all}
-use Rattle.rc_edges.specs.Values.{Values, values_cmp}
-use Rattle.rc_edges.specs.ListMap.{IsGap}
-use Rattle.rc_edges.specs.EdgeMap.{Counted}
-use Rattle.rc_edges.specs.ListMapLaws.{past_at, past_gap, past_more, past_all}
+use Rattle.rc_edges.proofs.Imports.{drop_all, Values, values_cmp, IsGap, Counted, past_at, past_gap, past_more, past_all}
 use Rattle.rc_edges.proofs.list_map.place.Goals as goal
 
 pub returns-in-Equal-clause-found : goal.returns-in-Equal-clause-found

@@ -1,7 +1,5 @@
 use Rattle.std.proofs.Common.{◌∷◌, [], ◌++◌, ap, ◌∙◌}
-use Rattle.rc_edges.specs.Values.{Values}
-use Rattle.rc_edges.specs.ListMap.{values_in}
-use Rattle.rc_edges.specs.ListMapLaws.{rows_pushed}
+use Rattle.rc_edges.proofs.Imports.{Values, values_in, rows_pushed}
 use Rattle.rc_edges.proofs.list_map.push_rows.Goals as goal
 
 pub loop-item-preserved : goal.loop-item-preserved

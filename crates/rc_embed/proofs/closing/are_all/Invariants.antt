@@ -1,6 +1,5 @@
 use Rattle.std.proofs.Common.{◌≡◌, map, take}
-use Rattle.std.specs.List.{range_with_len}
-use Rattle.rc_embed.specs.Closing.{number_of}
+use Rattle.rc_embed.proofs.Imports.{range_with_len, number_of}
 use Rattle.rc_embed.proofs.closing.are_all.Given as goal
 
 abbrev pub invariant-loop-at : goal.invariant-loop-at

@@ -1,5 +1,4 @@
-use Rattle.rc_embed.specs.DeclaringLaws.{declared_calls_are_covered}
-use Rattle.rc_embed.specs.OpenGroupLaws.{no_declared_call_is_uncovered, open_groups_keep_their_locks}
+use Rattle.rc_embed.proofs.Imports.{declared_calls_are_covered, no_declared_call_is_uncovered, open_groups_keep_their_locks}
 use Rattle.rc_embed.proofs.laws.declared_calls_are_covered.Goals as goal
 
 pub returns-clause-covered : goal.returns-clause-covered

@@ -1,5 +1,4 @@
-use Rattle.std.proofs.Common.{refl, subst}
-use Rattle.rc_embed.specs.Opened.{IsRefusedWith}
+use Rattle.rc_embed.proofs.Imports.{refl, subst, IsRefusedWith}
 use Rattle.rc_embed.specs.declared.fault.OpenFault.TheVariants.{Memory}
 use Rattle.rc_embed.specs.declared.opening.Options as asked
 use Rattle.rc_embed.proofs.PlanningLemmas.{memory_too, tells_none}

@@ -1,7 +1,5 @@
 use Rattle.std.proofs.Common.{ℕ, List, [], ◌∷◌, ◌++◌, map, sym, ap, ◌∙◌, arith}
-use Rattle.std.specs.List.{range_with_len}
-use Rattle.std.proofs.lemmas.List.FromFn.{map-range_with_len_more}
-use Rattle.rc_work.specs.CallColumns.{written_columns_at}
+use Rattle.rc_embed.proofs.Imports.{range_with_len, map-range_with_len_more, written_columns_at}
 use Rattle.rc_embed.proofs.opening.all_columns.Goals as goal
 
 pub loop-op-preserved : goal.loop-op-preserved

@@ -1,6 +1,5 @@
 use Rattle.std.proofs.Common.{◌≡◌, map}
-use Rattle.std.specs.List.{range_with_len}
-use Rattle.rc_work.specs.CallColumns.{written_columns_at}
+use Rattle.rc_embed.proofs.Imports.{range_with_len, written_columns_at}
 use Rattle.rc_embed.proofs.opening.all_columns.Given as goal
 
 abbrev pub invariant-loop-op : goal.invariant-loop-op

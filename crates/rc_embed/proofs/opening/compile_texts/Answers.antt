@@ -1,5 +1,4 @@
-use Rattle.std.proofs.Common.{arith}
-use Rattle.rc_embed.specs.Opened.{AreShort}
+use Rattle.rc_embed.proofs.Imports.{arith, AreShort}
 use Rattle.rc_embed.proofs.PlanningLemmas.{compiled_if, uncompiled_if}
 use Rattle.rc_embed.proofs.opening.compile_texts.Goals as goal
 

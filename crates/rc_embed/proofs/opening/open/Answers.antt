@@ -1,5 +1,4 @@
-use Rattle.std.specs.Prelude.{IfOk}
-use Rattle.rc_embed.specs.Opened.{IsOpened}
+use Rattle.rc_embed.proofs.Imports.{IfOk, IsOpened}
 use Rattle.rc_embed.proofs.PlanningLemmas.{none_refused, plans_planned, unshaped, without_plans, without_shapes}
 use Rattle.rc_embed.proofs.opening.open.Goals.{After-open_with}
 use Rattle.rc_embed.proofs.opening.open.Goals as goal

@@ -1,8 +1,5 @@
 use Rattle.std.proofs.Common.{◌≡◌, List, All, length, sym, subst, ap, ◌∙◌, arith}
-use Rattle.std.proofs.lemmas.List.FromFn.{length-map-range_with_len}
-use Rattle.rc_row.specs.Passes.{PassSeen, new_pass}
-use Rattle.rc_store.specs.Store.{IsFree}
-use Rattle.rc_store.specs.FreeLaws.{new_are_free}
+use Rattle.rc_embed.proofs.Imports.{length-map-range_with_len, PassSeen, new_pass, IsFree, new_are_free}
 use Rattle.rc_embed.proofs.opening.open_compiled.Goals as goal
 
 pub invariant_of-result-2 : goal.invariant_of-result-2

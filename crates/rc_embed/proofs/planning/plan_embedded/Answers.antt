@@ -1,10 +1,6 @@
 use Rattle.std.proofs.Common.{◌≡◌, Ok, refl, ◌∙◌, ap, subst}
-use Rattle.rc_spec.specs.declared.spec.Spec.{Spec}
-use Rattle.rc_spec.specs.Acceptance.{IsSealed}
+use Rattle.rc_embed.proofs.Imports.{Spec, IsSealed, plans_of, embedded, with_operations}
 use Rattle.rc_handplan.specs.Chosen.{IsRefusedFor}
-use Rattle.rc_handplan.specs.HandGrammar.{plans_of}
-use Rattle.rc_inline.specs.Placing.{embedded}
-use Rattle.rc_work.specs.Shapes.{with_operations}
 use Rattle.rc_embed.proofs.ExtendingLemmas.{embedded_columns, embedded_few, embedded_over, embedded_shapes, hands_over}
 use Rattle.rc_embed.proofs.PlanningLemmas.{planned_with, refused_plan}
 use Rattle.rc_embed.proofs.planning.plan_embedded.Goals.{In_ok-extended}

@@ -1,7 +1,6 @@
 use Rattle.std.proofs.Common.{◌≡◌}
 use Rattle.rc_embed.specs.declared.fault.OpenFault.TheVariants as faults
-use Rattle.rc_embed.specs.declared.fault.ResumeFault.TheVariants.{Refused}
-use Rattle.rc_embed.specs.Resuming.{IsResumedOf, IsResumedWith, IsUnresumedFor}
+use Rattle.rc_embed.proofs.Imports.{Refused, IsResumedOf, IsResumedWith, IsUnresumedFor}
 use Rattle.rc_embed.proofs.ResumingLemmas.{err_if, no_memory, ok_if, resumed_with}
 use Rattle.rc_embed.proofs.resuming.resume.Goals as goal
 

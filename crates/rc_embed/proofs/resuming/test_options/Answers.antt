@@ -1,6 +1,5 @@
 use Rattle.std.proofs.Common.{◌≡◌, ◌≤◌, ℕ, List, length, sym, ap, ◌∙◌, subst, arith}
-use Rattle.std.specs.List.{AllByRecursion}
-use Rattle.std.proofs.lemmas.Bool.{false≢true}
+use Rattle.rc_embed.proofs.Imports.{AllByRecursion, false≢true}
 use Rattle.rc_embed.proofs.WithinLemmas.{some_above}
 use Rattle.rc_embed.proofs.resuming.test_options.Goals as goal
 

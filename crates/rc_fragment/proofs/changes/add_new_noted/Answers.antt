@@ -1,13 +1,5 @@
 use Rattle.std.proofs.Common.{◌≡◌, take, Some, sym, ap, subst, ◌∙◌}
-use Rattle.std.specs.Prelude.{List, true, false}
-use Rattle.std.specs.List.{slice_get}
-use Rattle.std.proofs.Math.Seq.{take-append_seam}
-use Rattle.rc_tuple.specs.RisingSetLaws.{slice_get_in}
-use Rattle.rc_fragment.specs.Container.{now_in}
-use Rattle.rc_fragment.specs.Fragment.{IsFragment}
-use Rattle.rc_fragment.specs.Listing.{listing}
-use Rattle.rc_fragment.specs.Notes.{IsNewPlace, Place, PlaceBecomes, changes_of, kept_at_place, noted_extra, place_of, taken_rows, undone}
-use Rattle.rc_fragment.specs.declared.edge_rows.EdgeRows.{EdgeRows}
+use Rattle.rc_fragment.proofs.Imports.{List, true, false, slice_get, take-append_seam, slice_get_in, now_in, IsFragment, listing, IsNewPlace, Place, PlaceBecomes, changes_of, kept_at_place, noted_extra, place_of, taken_rows, undone, EdgeRows}
 use Rattle.rc_fragment.proofs.ChangeLemmas.{found_edge}
 use Rattle.rc_fragment.proofs.NewLemmas.{new_fragment, new_row, new_taken, row_there, single_read, values_read}
 use Rattle.rc_fragment.proofs.PlaceLemmas.{fragment_same}

@@ -1,19 +1,5 @@
 use Rattle.std.proofs.Common.{◌≡◌, ◌-◌, ◌<◌, ◌≤◌, ◌^◌, take, Some, sym, ap, subst, ◌∙◌, arith}
-use Rattle.std.specs.Prelude.{List, false}
-use Rattle.std.specs.List.{slice_get}
-use Rattle.std.specs.Vec.{vec_len, vec_capacity}
-use Rattle.std.proofs.Math.Seq.{take-append_seam}
-use Rattle.rc_tuple.specs.RisingSetLaws.{slice_get_in}
-use Rattle.rc_tuple.specs.Tuple.{cols_of}
-use Rattle.rc_edges.specs.Values.{Values}
-use Rattle.rc_edges.specs.EdgeMap.{HasExtra, count_of}
-use Rattle.rc_fragment.specs.Container.{now_in}
-use Rattle.rc_fragment.specs.Fragment.{edge_row, IsFragment}
-use Rattle.rc_fragment.specs.Listing.{found_by, listing, shapes}
-use Rattle.rc_fragment.specs.Notes.{IsRowAt, Place, changes_of, kept_at_place, key_of, noted_extra, place_of, source_of, taken_rows, undone}
-use Rattle.rc_fragment.specs.Sources.{IsSingle}
-use Rattle.rc_fragment.specs.declared.edge_rows.EdgeRows.{EdgeRows}
-use Rattle.rc_fragment.specs.declared.note.NotedRow.{NotedRow}
+use Rattle.rc_fragment.proofs.Imports.{List, false, slice_get, vec_len, vec_capacity, take-append_seam, slice_get_in, cols_of, Values, HasExtra, count_of, now_in, edge_row, IsFragment, found_by, listing, shapes, IsRowAt, Place, changes_of, kept_at_place, key_of, noted_extra, place_of, source_of, taken_rows, undone, IsSingle, EdgeRows, NotedRow}
 use Rattle.rc_fragment.proofs.ChangeLemmas.{found_edge}
 use Rattle.rc_fragment.proofs.ListingLemmas.{extra_in, key_in, source_in}
 use Rattle.rc_fragment.proofs.NotedLemmas.{IsNoteOf, added_fragment, added_taken, at_row, noted_values, own_count, place_added, rows_raised}

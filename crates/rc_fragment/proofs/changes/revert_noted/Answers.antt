@@ -1,9 +1,5 @@
 use Rattle.std.proofs.Common.{[], sym, subst, ◌∙◌}
-use Rattle.std.specs.Prelude.{List}
-use Rattle.rc_fragment.specs.Container.{now_in}
-use Rattle.rc_fragment.specs.Fragment.{AreNoted, IsFragment}
-use Rattle.rc_fragment.specs.Notes.{taken_rows}
-use Rattle.rc_fragment.specs.declared.edge_rows.EdgeRows.{EdgeRows}
+use Rattle.rc_fragment.proofs.Imports.{List, now_in, AreNoted, IsFragment, taken_rows, EdgeRows}
 use Rattle.rc_fragment.proofs.ChangeLemmas.{same_listing}
 use Rattle.rc_fragment.proofs.PlaceLemmas.{fragment_clear}
 use Rattle.rc_fragment.proofs.RowLemmas.{filed_now}

@@ -1,8 +1,4 @@
-use Rattle.std.proofs.Common.{[], sym, subst}
-use Rattle.std.specs.Prelude.{List}
-use Rattle.rc_fragment.specs.Container.{now_in}
-use Rattle.rc_fragment.specs.Fragment.{AreNoted, IsFragment}
-use Rattle.rc_fragment.specs.declared.edge_rows.EdgeRows.{EdgeRows}
+use Rattle.rc_fragment.proofs.Imports.{[], sym, subst, List, now_in, AreNoted, IsFragment, EdgeRows}
 use Rattle.rc_fragment.proofs.ChangeLemmas.{same_listing}
 use Rattle.rc_fragment.proofs.PlaceLemmas.{fragment_clear}
 use Rattle.rc_fragment.proofs.RowLemmas.{filed_now}

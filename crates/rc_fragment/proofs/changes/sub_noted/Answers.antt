@@ -1,15 +1,5 @@
 use Rattle.std.proofs.Common.{◌≡◌, ◌-◌, ◌<◌, ◌≤◌, Some, refl, sym, ap, subst, ◌∙◌, arith}
-use Rattle.std.specs.Prelude.{IsSome, List}
-use Rattle.std.specs.List.{slice_get}
-use Rattle.std.specs.Vec.{vec_len, vec_capacity}
-use Rattle.rc_tuple.specs.RisingSetLaws.{slice_get_in}
-use Rattle.rc_tuple.specs.Tuple.{cols_of}
-use Rattle.rc_edges.specs.EdgeMap.{HasExtra}
-use Rattle.rc_fragment.specs.Container.{now_in}
-use Rattle.rc_fragment.specs.Fragment.{edge_row, HasAlone, IsFragment}
-use Rattle.rc_fragment.specs.Listing.{found_by, listing, shapes}
-use Rattle.rc_fragment.specs.Notes.{now_at_place, taken_rows}
-use Rattle.rc_fragment.specs.declared.edge_rows.EdgeRows.{EdgeRows}
+use Rattle.rc_fragment.proofs.Imports.{IsSome, List, slice_get, vec_len, vec_capacity, slice_get_in, cols_of, HasExtra, now_in, edge_row, HasAlone, IsFragment, found_by, listing, shapes, now_at_place, taken_rows, EdgeRows}
 use Rattle.rc_fragment.proofs.ChangeLemmas.{found_edge}
 use Rattle.rc_fragment.proofs.ListingLemmas.{extra_in, key_in, source_in}
 use Rattle.rc_fragment.proofs.NotedLemmas.{IsNoteOf, at_row, out_fragment, out_taken, place_lowered, rows_lowered}

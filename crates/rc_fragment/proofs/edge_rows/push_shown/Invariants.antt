@@ -1,6 +1,5 @@
 use Rattle.std.proofs.Common.{◌≡◌, ◌++◌, take}
-use Rattle.std.specs.List.{flat_map}
-use Rattle.rc_fragment.specs.Sources.{shown_sources}
+use Rattle.rc_fragment.proofs.Imports.{flat_map, shown_sources}
 use Rattle.rc_fragment.proofs.edge_rows.push_shown.Given as goal
 
 abbrev pub invariant-loop-keyed : goal.invariant-loop-keyed

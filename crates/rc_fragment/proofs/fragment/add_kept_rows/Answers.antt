@@ -1,14 +1,5 @@
 use Rattle.std.proofs.Common.{◌≡◌, ◌<◌, ◌≤◌, ℕ, true, length, sym, ap, subst, ◌∙◌}
-use Rattle.rc_tuple.specs.Tuple.{Pairs}
-use Rattle.rc_spec.specs.CountedRows.{raised}
-use Rattle.rc_fragment.specs.Fragment.{HasShape, edge_row}
-use Rattle.rc_fragment.specs.FragmentRows.{FragmentRows, changed}
-use Rattle.rc_fragment.specs.Implied.{raised_all}
-use Rattle.rc_fragment.specs.ImpliedTables.{is_kept_of_class}
-use Rattle.rc_fragment.specs.Tuples.{CanAddRow, IsPartlyAdded, full_fragment}
-use Rattle.rc_fragment.specs.TuplesLaws.{before_next, before_other, can_before, changed_before, partly_added, raised_last, raised_tuple, room_before, rows_before}
-use Rattle.rc_maps.specs.PushLaws.{on_err}
-use Rattle.rc_fragment.specs.declared.shape.EdgeShape.{EdgeShape}
+use Rattle.rc_fragment.proofs.Imports.{Pairs, raised, HasShape, edge_row, FragmentRows, changed, raised_all, is_kept_of_class, CanAddRow, IsPartlyAdded, full_fragment, before_next, before_other, can_before, changed_before, partly_added, raised_last, raised_tuple, room_before, rows_before, on_err, EdgeShape}
 use Rattle.rc_fragment.proofs.fragment.add_kept_rows.Goals as goal
 use Rattle.rc_fragment.proofs.fragment.add_kept_rows.Goals.{then-is_kept_of+in_ok-add_row, else-is_kept_of}
 

@@ -1,6 +1,5 @@
 use Rattle.std.proofs.Common.{◌≡◌}
-use Rattle.rc_fragment.specs.Implied.{raised_all}
-use Rattle.rc_fragment.specs.TuplesLaws.{changed_before}
+use Rattle.rc_fragment.proofs.Imports.{raised_all, changed_before}
 use Rattle.rc_fragment.proofs.fragment.add_kept_rows.Given as goal
 
 abbrev pub invariant-loop-edge : goal.invariant-loop-edge

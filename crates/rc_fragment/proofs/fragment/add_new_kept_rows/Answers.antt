@@ -1,13 +1,5 @@
 use Rattle.std.proofs.Common.{◌≡◌, ◌<◌, ◌≤◌, ℕ, None, true, false, length, sym, ap, subst, ◌∙◌}
-use Rattle.rc_tuple.specs.Tuple.{Pairs}
-use Rattle.rc_spec.specs.CountedRows.{raised}
-use Rattle.rc_fragment.specs.Fragment.{HasShape, edge_row}
-use Rattle.rc_fragment.specs.FragmentRows.{FragmentRows, changed}
-use Rattle.rc_fragment.specs.Implied.{raised_all}
-use Rattle.rc_fragment.specs.ImpliedTables.{full_rows, is_kept_of_class}
-use Rattle.rc_fragment.specs.Tuples.{CanAddRow, CanAddTuple, IsNewRowIn, IsPartlyAdded, full_fragment}
-use Rattle.rc_fragment.specs.TuplesLaws.{before_next, before_other, can_before, changed_before, partly_added, raised_last, raised_tuple, room_before, rows_before}
-use Rattle.rc_fragment.specs.declared.shape.EdgeShape.{EdgeShape}
+use Rattle.rc_fragment.proofs.Imports.{Pairs, raised, HasShape, edge_row, FragmentRows, changed, raised_all, full_rows, is_kept_of_class, CanAddRow, CanAddTuple, IsNewRowIn, IsPartlyAdded, full_fragment, before_next, before_other, can_before, changed_before, partly_added, raised_last, raised_tuple, room_before, rows_before, EdgeShape}
 use Rattle.rc_fragment.proofs.FirstLemmas.{first_can, first_next, first_room, first_there, full_look, none_added}
 use Rattle.rc_fragment.proofs.fragment.add_new_kept_rows.Goals as goal
 use Rattle.rc_fragment.proofs.fragment.add_new_kept_rows.Goals.{In-Ok, then-is_kept_of+in-Ok-add_row, else-is_kept_of}

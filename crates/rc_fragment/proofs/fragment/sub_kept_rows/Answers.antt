@@ -1,13 +1,5 @@
 use Rattle.std.proofs.Common.{◌≡◌, ◌<◌, ◌≤◌, ℕ, true, length, sym, ap, subst, ◌∙◌}
-use Rattle.rc_tuple.specs.Tuple.{Pairs}
-use Rattle.rc_spec.specs.CountedRows.{lowered}
-use Rattle.rc_fragment.specs.Fragment.{HasShape, IsThere, edge_row}
-use Rattle.rc_fragment.specs.FragmentRows.{FragmentRows, changed}
-use Rattle.rc_fragment.specs.Implied.{lowered_all}
-use Rattle.rc_fragment.specs.ImpliedTables.{is_kept_of_class}
-use Rattle.rc_fragment.specs.Tuples.{full_fragment}
-use Rattle.rc_fragment.specs.TuplesLaws.{before_next, before_other, there_before, changed_before, lowered_last, lowered_tuple, room_before, rows_before}
-use Rattle.rc_fragment.specs.declared.shape.EdgeShape.{EdgeShape}
+use Rattle.rc_fragment.proofs.Imports.{Pairs, lowered, HasShape, IsThere, edge_row, FragmentRows, changed, lowered_all, is_kept_of_class, full_fragment, before_next, before_other, there_before, changed_before, lowered_last, lowered_tuple, room_before, rows_before, EdgeShape}
 use Rattle.rc_fragment.proofs.fragment.sub_kept_rows.Goals as goal
 use Rattle.rc_fragment.proofs.fragment.sub_kept_rows.Goals.{then-is_kept_of, else-is_kept_of}
 

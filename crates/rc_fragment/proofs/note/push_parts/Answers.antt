@@ -1,10 +1,5 @@
 use Rattle.std.proofs.Common.{◌≡◌, ◌+◌, ◌≤◌, ◌++◌, take, vec_len, vec_capacity, ℕ, true, List, [], ◌∷◌, ◌∙◌, get_or, sym, ap, subst, arith, Global, Vec}
-use Rattle.std.specs.Prelude.{suc}
-use Rattle.std.specs.List.{insert}
-use Rattle.std.proofs.Math.Seq.{take-suc}
-use Rattle.std.proofs.lemmas.List.{length-drop}
-use Rattle.rc_tuple.specs.ColSet.{has}
-use Rattle.rc_tuple.specs.Tuple.{Pairs}
+use Rattle.rc_fragment.proofs.Imports.{suc, insert, take-suc, length-drop, has, Pairs}
 use Rattle.rc_fragment.proofs.PartLemmas.{AreParted, parted_as, parted_extra, parted_key, parted_none, parted_source}
 use Rattle.rc_fragment.proofs.note.push_parts.Goals.{then-has, else-has+then-has-2, else-has+else-has-2+then-has-3, else-has+else-has-2+else-has-3}
 use Rattle.rc_fragment.proofs.note.push_parts.Goals as goal

@@ -1,6 +1,5 @@
 use Rattle.std.proofs.Common.{◌≡◌, ◌+◌, ◌≤◌, drop, length, take}
-use Rattle.std.specs.Vec.{vec_len, vec_capacity}
-use Rattle.rc_fragment.specs.RowValues.{extra_columns}
+use Rattle.rc_fragment.proofs.Imports.{vec_len, vec_capacity, extra_columns}
 use Rattle.rc_fragment.proofs.PartLemmas.{AreParted}
 use Rattle.rc_fragment.proofs.note.push_parts.Given as goal
 

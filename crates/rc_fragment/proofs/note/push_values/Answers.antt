@@ -1,9 +1,6 @@
 use Rattle.std.proofs.Common.{◌≡◌, ◌++◌, ◌∷◌, [], ℕ, length, refl, sym, ap, ◌∙◌, arith}
 use Rattle.std.specs.Prelude.{List, ◌==◌, true, suc}
-use Rattle.std.proofs.lemmas.Bool.{eqb-true}
-use Rattle.std.proofs.lemmas.List.{append-nil}
-use Rattle.rc_tuple.specs.Tuple.{Pairs}
-use Rattle.rc_fragment.specs.RowValues.{values_at}
+use Rattle.rc_fragment.proofs.Imports.{eqb-true, append-nil, Pairs, values_at}
 use Rattle.rc_fragment.proofs.note.push_values.Goals as goal
 
 -- without columns there are no values

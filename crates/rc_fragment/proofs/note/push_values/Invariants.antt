@@ -1,6 +1,5 @@
 use Rattle.std.proofs.Common.{◌≡◌, ◌+◌, ◌++◌, drop, length}
-use Rattle.std.specs.Vec.{vec_len, vec_capacity}
-use Rattle.rc_fragment.specs.RowValues.{values_at}
+use Rattle.rc_fragment.proofs.Imports.{vec_len, vec_capacity, values_at}
 use Rattle.rc_fragment.proofs.note.push_values.Given as goal
 
 abbrev pub invariant-loop-pair : goal.invariant-loop-pair

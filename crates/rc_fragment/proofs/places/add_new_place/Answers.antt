@@ -1,19 +1,9 @@
 use Rattle.std.proofs.Common.{◌≡◌, None, Some, sym, subst, ◌∙◌}
-use Rattle.std.specs.Prelude.{List, IfOk, OnErr, slice_set}
-use Rattle.std.specs.List.{slice_get}
-use Rattle.rc_edges.specs.Values.{Values}
-use Rattle.rc_tuple.specs.RisingSetLaws.{slice_get_in}
-use Rattle.rc_fragment.specs.Container.{kept_in, now_in}
-use Rattle.rc_fragment.specs.Listing.{IsStored, found_by}
-use Rattle.rc_fragment.specs.Notes.{IsNewPlace, PlaceBecomes, key_of, noted_extra, source_of}
-use Rattle.rc_fragment.specs.RowValues.{HasValues, row_from}
-use Rattle.rc_fragment.specs.Sources.{IsSingle}
-use Rattle.rc_fragment.specs.declared.edge_rows.EdgeRows.{EdgeRows}
+use Rattle.rc_fragment.proofs.Imports.{List, IfOk, OnErr, slice_set, slice_get, Values, slice_get_in, kept_in, now_in, IsStored, found_by, IsNewPlace, PlaceBecomes, key_of, noted_extra, source_of, HasValues, row_from, IsSingle, EdgeRows, if_ok}
 use Rattle.rc_fragment.proofs.ChangeLemmas.{found_edge, found_there, width_of_row}
 use Rattle.rc_fragment.proofs.NewLemmas.{new_place, same_place}
 use Rattle.rc_fragment.proofs.RowLemmas.{shape_there}
 use Rattle.rc_fragment.proofs.SourcesLemmas.{on_err_from}
-use Rattle.rc_edges.specs.OneMapLaws.{if_ok}
 use Rattle.rc_fragment.proofs.places.add_new_place.Goals as goal
 use Rattle.rc_fragment.proofs.places.add_new_place.Goals.{After-extra}
 

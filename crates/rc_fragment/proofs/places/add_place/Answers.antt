@@ -1,15 +1,5 @@
 use Rattle.std.proofs.Common.{◌≡◌, ◌+◌, ◌<◌, ◌^◌, Option, Some, sym, subst}
-use Rattle.std.specs.Prelude.{List, IfOk, OnOk, OnErr, slice_set}
-use Rattle.std.specs.List.{slice_get}
-use Rattle.rc_edges.specs.Values.{Values}
-use Rattle.rc_tuple.specs.RisingSetLaws.{slice_get_in}
-use Rattle.rc_edges.specs.EdgeMap.{Counted, HasExtra, count_of}
-use Rattle.rc_fragment.specs.Container.{kept_in, now_in}
-use Rattle.rc_fragment.specs.Listing.{IsStored, found_by}
-use Rattle.rc_fragment.specs.Notes.{PlaceBecomes, key_of, noted_extra, source_of}
-use Rattle.rc_fragment.specs.RowValues.{HasValues, row_from}
-use Rattle.rc_fragment.specs.Sources.{AreSame, IsSingle, kept_at, now_at}
-use Rattle.rc_fragment.specs.declared.edge_rows.EdgeRows.{EdgeRows}
+use Rattle.rc_fragment.proofs.Imports.{List, IfOk, OnOk, OnErr, slice_set, slice_get, Values, slice_get_in, Counted, HasExtra, count_of, kept_in, now_in, IsStored, found_by, PlaceBecomes, key_of, noted_extra, source_of, HasValues, row_from, AreSame, IsSingle, kept_at, now_at, EdgeRows}
 use Rattle.rc_fragment.proofs.ChangeLemmas.{found_edge, found_there, place_changed, place_of_kept, place_of_row, width_of_row}
 use Rattle.rc_fragment.proofs.PlaceLemmas.{set_from_same}
 use Rattle.rc_fragment.proofs.RowLemmas.{shape_there}

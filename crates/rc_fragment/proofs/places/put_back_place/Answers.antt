@@ -1,14 +1,5 @@
 use Rattle.std.proofs.Common.{◌≡◌, Some, sym, subst}
-use Rattle.std.specs.Prelude.{IsSome, List, slice_set}
-use Rattle.std.specs.List.{slice_get}
-use Rattle.rc_edges.specs.Values.{Values}
-use Rattle.rc_tuple.specs.RisingSetLaws.{slice_get_in}
-use Rattle.rc_fragment.specs.Container.{kept_in}
-use Rattle.rc_fragment.specs.Listing.{IsStored}
-use Rattle.rc_fragment.specs.Notes.{PlaceBecomes, key_of, noted_extra, source_of}
-use Rattle.rc_fragment.specs.RowValues.{HasValues, row_from}
-use Rattle.rc_fragment.specs.Sources.{kept_at}
-use Rattle.rc_fragment.specs.declared.edge_rows.EdgeRows.{EdgeRows}
+use Rattle.rc_fragment.proofs.Imports.{IsSome, List, slice_set, slice_get, Values, slice_get_in, kept_in, IsStored, PlaceBecomes, key_of, noted_extra, source_of, HasValues, row_from, kept_at, EdgeRows}
 use Rattle.rc_fragment.proofs.ChangeLemmas.{as_many, found_edge, found_there, place_changed, place_of_row}
 use Rattle.rc_fragment.proofs.RowLemmas.{shape_there}
 use Rattle.rc_fragment.proofs.places.put_back_place.Goals as goal

@@ -1,8 +1,7 @@
 use Rattle.std.proofs.Common.{◌≡◌, ◌+◌, ◌-◌, ◌<◌, ℕ, length, get_or, refl, subst, arith}
 use Rattle.std.specs.Prelude.{List, [], ◌∷◌, zero, suc, false}
-use Rattle.rc_fragment.specs.declared.note.Note.{Note}
+use Rattle.rc_fragment.proofs.Imports.{Note, get_or_in}
 use Rattle.rc_fragment.proofs.RevertLemmas.{IsUndoing, undoing_first, undoing_last, undoing_next}
-use Rattle.rc_tuple.specs.RisingSetLaws.{get_or_in}
 use Rattle.rc_fragment.proofs.places.put_back_places.Goals as goal
 
 -- what stands where there is no note

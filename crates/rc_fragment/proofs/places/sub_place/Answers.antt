@@ -1,14 +1,5 @@
 use Rattle.std.proofs.Common.{◌≡◌, Some, sym, ap, subst, ◌∙◌}
-use Rattle.std.specs.Prelude.{IsSome, List, slice_set}
-use Rattle.std.specs.List.{slice_get}
-use Rattle.rc_edges.specs.Values.{Values}
-use Rattle.rc_tuple.specs.RisingSetLaws.{slice_get_in}
-use Rattle.rc_edges.specs.EdgeMap.{count_of, one_less}
-use Rattle.rc_fragment.specs.Container.{kept_in, now_in}
-use Rattle.rc_fragment.specs.Listing.{IsStored, found_by}
-use Rattle.rc_fragment.specs.Notes.{PlaceBecomes, key_of, source_of}
-use Rattle.rc_fragment.specs.Sources.{kept_at, now_at}
-use Rattle.rc_fragment.specs.declared.edge_rows.EdgeRows.{EdgeRows}
+use Rattle.rc_fragment.proofs.Imports.{IsSome, List, slice_set, slice_get, Values, slice_get_in, count_of, one_less, kept_in, now_in, IsStored, found_by, PlaceBecomes, key_of, source_of, kept_at, now_at, EdgeRows}
 use Rattle.rc_fragment.proofs.ChangeLemmas.{found_edge, found_there, place_changed, place_of_kept, place_of_less}
 use Rattle.rc_fragment.proofs.places.sub_place.Goals as goal
 use Rattle.rc_fragment.proofs.places.sub_place.Goals.{After-key}

@@ -1,13 +1,5 @@
 use Rattle.std.proofs.Common.{◌≡◌, Some, sym, subst}
-use Rattle.std.specs.Prelude.{List, slice_set}
-use Rattle.std.specs.List.{slice_get}
-use Rattle.rc_edges.specs.Values.{Values}
-use Rattle.rc_tuple.specs.RisingSetLaws.{slice_get_in}
-use Rattle.rc_fragment.specs.Container.{now_in}
-use Rattle.rc_fragment.specs.Listing.{IsStored, found_by}
-use Rattle.rc_fragment.specs.Notes.{PlaceBecomes, key_of, source_of}
-use Rattle.rc_fragment.specs.Sources.{Becomes, kept_at}
-use Rattle.rc_fragment.specs.declared.edge_rows.EdgeRows.{EdgeRows}
+use Rattle.rc_fragment.proofs.Imports.{List, slice_set, slice_get, Values, slice_get_in, now_in, IsStored, found_by, PlaceBecomes, key_of, source_of, Becomes, kept_at, EdgeRows}
 use Rattle.rc_fragment.proofs.ChangeLemmas.{found_edge, place_changed, place_of_kept, place_of_there}
 use Rattle.rc_fragment.proofs.KeptLemmas.{there, there_at, there_by}
 use Rattle.rc_fragment.proofs.places.sweep_place.Goals as goal

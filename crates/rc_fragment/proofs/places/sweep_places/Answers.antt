@@ -1,13 +1,6 @@
 use Rattle.std.proofs.Common.{◌≡◌, ◌+◌, ◌∷◌, ℕ, length, drop, get_or, sym, ap, subst, ◌∙◌, arith}
-use Rattle.std.specs.Prelude.{List, [], false}
-use Rattle.std.proofs.Common.{Vec, Global}
-use Rattle.rc_edges.specs.Values.{Values}
-use Rattle.rc_tuple.specs.RisingSetLaws.{get_or_in}
-use Rattle.rc_fragment.specs.Fragment.{IsNoted}
+use Rattle.rc_fragment.proofs.Imports.{List, [], false, Vec, Global, Values, get_or_in, IsNoted, drop_all, drop_more, EdgeRows, Note}
 use Rattle.rc_fragment.proofs.PlaceLemmas.{same_length}
-use Rattle.std.proofs.lemmas.List.{drop_all, drop_more}
-use Rattle.rc_fragment.specs.declared.edge_rows.EdgeRows.{EdgeRows}
-use Rattle.rc_fragment.specs.declared.note.Note.{Note}
 use Rattle.rc_fragment.proofs.RevertLemmas.{IsSweeping, all_swept, sweeping_first, sweeping_next, sweeping_past}
 use Rattle.rc_fragment.proofs.places.sweep_places.Goals as goal
 use Rattle.rc_fragment.proofs.places.sweep_places.Goals.{then-is_swept, else-is_swept}

@@ -1,15 +1,6 @@
 use Rattle.std.proofs.Common.{◌≡◌, ◌+◌, ◌<◌, ◌≤◌, ◌++◌, ◌∷◌, [], ℕ, length, take, drop, sym, ap, subst, ◌∙◌, arith}
-use Rattle.std.specs.Prelude.{List}
+use Rattle.rc_fragment.proofs.Imports.{List, len-entries, append_assoc, append-nil, drop_all, Pairs, Values, Counted, Rows, now_in, rows_with, HasValues, extra_columns, row_from, EdgeShape}
 use Rattle.std.specs.FinMap as fin
-use Rattle.std.specs.FinMap.{len-entries}
-use Rattle.std.proofs.lemmas.List.{append_assoc, append-nil, drop_all}
-use Rattle.rc_tuple.specs.Tuple.{Pairs}
-use Rattle.rc_edges.specs.Values.{Values}
-use Rattle.rc_edges.specs.EdgeMap.{Counted, Rows}
-use Rattle.rc_fragment.specs.Container.{now_in}
-use Rattle.rc_fragment.specs.Listing.{rows_with}
-use Rattle.rc_fragment.specs.RowValues.{HasValues, extra_columns, row_from}
-use Rattle.rc_fragment.specs.declared.shape.EdgeShape.{EdgeShape}
 use Rattle.rc_fragment.proofs.WalkLemmas.{behind_key, entry_here, entry_next, entry_values, extra_behind, extra_cut, extra_fits, key_behind, key_cut, key_fits}
 use Rattle.rc_fragment.proofs.rows.push_rows.Goals as goal
 

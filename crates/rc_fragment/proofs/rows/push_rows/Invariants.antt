@@ -1,7 +1,6 @@
 use Rattle.std.proofs.Common.{◌≡◌, ◌++◌, drop}
 use Rattle.std.specs.FinMap as fin
-use Rattle.rc_fragment.specs.Container.{now_in}
-use Rattle.rc_fragment.specs.Listing.{rows_with}
+use Rattle.rc_fragment.proofs.Imports.{now_in, rows_with}
 use Rattle.rc_fragment.proofs.WalkLemmas.{flat}
 use Rattle.rc_fragment.proofs.rows.push_rows.Given as goal
 

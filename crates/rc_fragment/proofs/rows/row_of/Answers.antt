@@ -1,11 +1,5 @@
 use Rattle.std.proofs.Common.{◌≡◌, ◌∷◌, [], ◌++◌, ℕ, true, sym, ap, subst, ◌∙◌, arith}
-use Rattle.std.specs.List.{zip}
-use Rattle.std.specs.Prelude.{IfOk}
-use Rattle.rc_tuple.specs.ColSet.{has}
-use Rattle.rc_tuple.specs.RisingSetLaws.{in_has}
-use Rattle.rc_tuple.specs.Tuple.{Pairs}
-use Rattle.rc_fragment.specs.RowValues.{row_from}
-use Rattle.rc_fragment.specs.declared.shape.EdgeShape.{EdgeShape}
+use Rattle.rc_fragment.proofs.Imports.{zip, IfOk, has, in_has, Pairs, row_from, EdgeShape}
 use Rattle.rc_fragment.proofs.BesideLemmas.{below_all, below_with, below_without, length_all, values_below}
 use Rattle.rc_fragment.proofs.rows.row_of.Goals as goal
 use Rattle.rc_fragment.proofs.rows.row_of.Goals.{then-has+in_ok-push, else-has}

@@ -1,8 +1,5 @@
 use Rattle.std.proofs.Common.{◌≡◌, List, length}
-use Rattle.std.specs.List.{flat_map}
-use Rattle.std.specs.Slice.Iter.{chunks_exact_rest, chunks_exact_size}
-use Rattle.rc_edges.specs.Values.{Values}
-use Rattle.rc_fragment.specs.RowValues.{HaveWidth}
+use Rattle.rc_fragment.proofs.Imports.{flat_map, chunks_exact_rest, chunks_exact_size, Values, HaveWidth}
 use Rattle.rc_fragment.proofs.OverLemmas.{AreCut}
 use Rattle.rc_fragment.proofs.rows.rows_over.Given as goal
 

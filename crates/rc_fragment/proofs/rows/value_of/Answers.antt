@@ -1,12 +1,5 @@
 use Rattle.std.proofs.Common.{sym, ap, subst, ◌∙◌}
-use Rattle.std.specs.Prelude.{length}
-use Rattle.std.specs.List.{zip}
-use Rattle.rc_tuple.specs.RisingSet.{In}
-use Rattle.rc_tuple.specs.RisingSetLaws.{in_has}
-use Rattle.rc_tuple.specs.Tuple.{Pairs, value}
-use Rattle.rc_fragment.specs.RowValues.{extra_columns, row_from}
-use Rattle.rc_fragment.specs.RowValuesLaws.{extra_set, extra_within}
-use Rattle.rc_fragment.specs.declared.shape.EdgeShape.{EdgeShape}
+use Rattle.rc_fragment.proofs.Imports.{length, zip, In, in_has, Pairs, value, extra_columns, row_from, extra_set, extra_within, EdgeShape}
 use Rattle.rc_fragment.proofs.BesideLemmas.{in_extra, in_part}
 use Rattle.rc_fragment.proofs.WalkLemmas.{AreWide, wide}
 use Rattle.rc_fragment.proofs.rows.value_of.Goals as goal

@@ -1,5 +1,4 @@
-use Rattle.rc_tuple.specs.RisingSetLaws.{same_bool}
-use Rattle.rc_edges.specs.Values.{values_eq}
+use Rattle.rc_fragment.proofs.Imports.{same_bool, values_eq}
 use Rattle.rc_edges.specs.ValuesLaws.{same_from_test as values_same, test_from_same as values_test}
 use Rattle.rc_fragment.proofs.shape.are_same.Goals as goal
 

@@ -1,9 +1,5 @@
 use Rattle.std.proofs.Common.{◌≡◌, ◌<◌, ap, arith, length, rules, subst, sym, tests, ◌∙◌}
-use Rattle.std.proofs.lemmas.Iterator.{YieldsList-from_range, serves_from_Range}
-use Rattle.std.proofs.lemmas.Iterator.Adapters.{option_map_id}
-use Rattle.std.proofs.lemmas.Iterator.Search.{find_from_yields_List}
-use Rattle.rc_spec.specs.declared.spec.Spec.{Spec}
-use Rattle.rc_fragment.specs.Fragment.{is_below}
+use Rattle.rc_fragment.proofs.Imports.{YieldsList-from_range, serves_from_Range, option_map_id, find_from_yields_List, Spec, is_below}
 use Rattle.rc_fragment.proofs.shape.first_below.Goals as goal
 use Rattle.rc_fragment.proofs.shape.first_below.Goals.{After-list}
 

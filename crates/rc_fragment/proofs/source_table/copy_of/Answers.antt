@@ -1,16 +1,6 @@
 use Rattle.std.proofs.Common.{◌≡◌, ◌+◌, ◌∷◌, ℕ, drop, sym, ap, subst, ◌∙◌}
-use Rattle.std.specs.Prelude.{List, map}
+use Rattle.rc_fragment.proofs.Imports.{List, map, In, get_or_in, map_in, drop_more, Values, HasWidth, entries_of, AreApart, pair_of, Keyed, seen_container, Container}
 use Rattle.std.specs.FinMap as fin
-use Rattle.rc_tuple.specs.RisingSet.{In}
-use Rattle.rc_tuple.specs.RisingSetLaws.{get_or_in, map_in}
-use Rattle.std.proofs.lemmas.List.{drop_more}
-use Rattle.rc_edges.specs.Values.{Values}
-use Rattle.rc_edges.specs.EdgeMap.{HasWidth}
-use Rattle.rc_maps.specs.HashTable.{entries_of}
-use Rattle.rc_maps.specs.Keyed.{AreApart, pair_of}
-use Rattle.rc_maps.specs.declared.keyed.Keyed.{Keyed}
-use Rattle.rc_fragment.specs.Sources.{seen_container}
-use Rattle.rc_fragment.specs.declared.container.Container.{Container}
 use Rattle.rc_fragment.proofs.CopyLemmas.{IsCopied, IsCopied-more, IsCopied-none}
 use Rattle.rc_fragment.proofs.WalkLemmas.{apart_from, got_from, width_there}
 use Rattle.rc_fragment.proofs.source_table.copy_of.Goals as goal

@@ -1,7 +1,5 @@
 use Rattle.std.proofs.Common.{◌≡◌, drop}
-use Rattle.std.specs.Prelude.{map}
-use Rattle.rc_maps.specs.HashTable.{entries_of, has_one_column}
-use Rattle.rc_maps.specs.Keyed.{pair_of}
+use Rattle.rc_fragment.proofs.Imports.{map, entries_of, has_one_column, pair_of}
 use Rattle.rc_fragment.proofs.CopyLemmas.{IsCopied}
 use Rattle.rc_fragment.proofs.source_table.copy_of.Given as goal
 

@@ -1,9 +1,5 @@
 use Rattle.std.proofs.Common.{◌≡◌, ◌+◌, ◌++◌, ◌∷◌, [], ℕ, take, sym, ap, subst, ◌∙◌}
-use Rattle.std.specs.Prelude.{List}
-use Rattle.std.proofs.lemmas.List.{take_more, take_all}
-use Rattle.rc_tuple.specs.RisingSet.{In}
-use Rattle.rc_tuple.specs.RisingSetLaws.{get_or_in}
-use Rattle.rc_fragment.specs.declared.edge_rows.EdgeRows.{EdgeRows}
+use Rattle.rc_fragment.proofs.Imports.{List, take_more, take_all, In, get_or_in, EdgeRows}
 use Rattle.rc_fragment.proofs.CopyLemmas.{AreSameEdges, same_push, same_emptied, same_shapes, same_found_kept, same_stored}
 use Rattle.rc_fragment.proofs.stored.copy_edges.Goals as goal
 

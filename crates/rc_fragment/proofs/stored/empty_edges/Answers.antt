@@ -1,19 +1,6 @@
 use Rattle.std.proofs.Common.{◌≡◌, zero-add, ◌<◌, ◌++◌, ◌∷◌, [], ℕ, length, sym, ap, subst, ◌∙◌, inl, inr, arith}
-use Rattle.std.specs.Prelude.{List, map}
-use Rattle.std.specs.List.{range_with_len}
-use Rattle.std.proofs.lemmas.List.{map-append}
-use Rattle.std.proofs.lemmas.List.FromFn.{map-range_with_len_more}
-use Rattle.rc_tuple.specs.RisingSet.{In}
+use Rattle.rc_fragment.proofs.Imports.{List, map, range_with_len, map-append, map-range_with_len_more, In, in_append, Spec, shape_of, parted_edge, table_of_spec, IsTable, shapes, IsParted, AreOfShape, sources_of, EdgeRows}
 use Rattle.std.specs.FinMap as fin
-use Rattle.rc_tuple.specs.RisingSetLaws.{in_append}
-use Rattle.rc_spec.specs.declared.spec.Spec.{Spec}
-use Rattle.rc_fragment.specs.Fragment.{shape_of}
-use Rattle.rc_fragment.specs.FragmentLaws.{parted_edge, table_of_spec}
-use Rattle.rc_fragment.specs.ImpliedTables.{IsTable}
-use Rattle.rc_fragment.specs.Listing.{shapes}
-use Rattle.rc_fragment.specs.RowValues.{IsParted}
-use Rattle.rc_fragment.specs.Sources.{AreOfShape, sources_of}
-use Rattle.rc_fragment.specs.declared.edge_rows.EdgeRows.{EdgeRows}
 use Rattle.rc_fragment.proofs.stored.empty_edges.Goals as goal
 
 pub loop-number-preserved : goal.loop-number-preserved

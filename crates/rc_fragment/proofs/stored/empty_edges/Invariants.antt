@@ -1,8 +1,5 @@
 use Rattle.std.proofs.Common.{◌≡◌}
-use Rattle.std.specs.Prelude.{map}
-use Rattle.std.specs.List.{range_with_len}
-use Rattle.rc_fragment.specs.Fragment.{shape_of}
-use Rattle.rc_fragment.specs.Listing.{AreEmpty, shapes}
+use Rattle.rc_fragment.proofs.Imports.{map, range_with_len, shape_of, AreEmpty, shapes}
 use Rattle.rc_fragment.proofs.stored.empty_edges.Given as goal
 
 abbrev pub invariant-loop-number : goal.invariant-loop-number

@@ -1,6 +1,5 @@
-use Rattle.rc_tuple.specs.ColSet.{IsColSet}
+use Rattle.rc_graph.proofs.Imports.{IsColSet, missing}
 use Rattle.rc_graph.proofs.CircleLemmas.{AreReached, AreTargets}
-use Rattle.rc_tuple.specs.GrowthLaws.{missing}
 use Rattle.rc_graph.proofs.circles.reached_from.Given as goal
 
 abbrev pub invariant-loop-next : goal.invariant-loop-next

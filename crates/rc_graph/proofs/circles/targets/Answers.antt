@@ -1,7 +1,5 @@
 use Rattle.std.proofs.Common.{◌≡◌, ◌<◌, ◌≤◌, ◌+◌, length, take, inl, inr, sym, ap, subst, ◌∙◌, arith}
-use Rattle.std.proofs.lemmas.Bool.{false≢true}
-use Rattle.rc_tuple.specs.RisingSetLaws.{in_has, has_in}
-use Rattle.rc_tuple.specs.ColSet.{IsColSet}
+use Rattle.rc_graph.proofs.Imports.{false≢true, in_has, has_in, IsColSet}
 use Rattle.rc_graph.proofs.EdgeLemmas.{at_hand, at_in, passed_whole}
 use Rattle.rc_graph.proofs.CircleLemmas.{AreTargets, targets_more, targets_same}
 use Rattle.rc_graph.proofs.circles.targets.Goals as goal

@@ -1,5 +1,4 @@
-use Rattle.std.proofs.Common.{take}
-use Rattle.rc_tuple.specs.ColSet.{IsColSet}
+use Rattle.rc_graph.proofs.Imports.{take, IsColSet}
 use Rattle.rc_graph.proofs.CircleLemmas.{AreTargets}
 use Rattle.rc_graph.proofs.circles.targets.Given as goal
 

@@ -1,7 +1,5 @@
 use Rattle.std.proofs.Common.{◌==◌, rules, tests}
-use Rattle.std.proofs.lemmas.Iterator.{YieldsList-from_slice}
-use Rattle.std.proofs.lemmas.Iterator.Search.{any_from_yields_List}
-use Rattle.rc_spec.specs.declared.items.Edge.{Edge}
+use Rattle.rc_graph.proofs.Imports.{YieldsList-from_slice, any_from_yields_List, Edge}
 use Rattle.rc_graph.proofs.EdgeLemmas.{some_has}
 use Rattle.rc_graph.proofs.entries.has_edge_out.Goals as goal
 

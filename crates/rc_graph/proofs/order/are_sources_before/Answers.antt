@@ -1,8 +1,5 @@
 use Rattle.std.proofs.Common.{◌==◌, ◌||◌, not, rules, tests}
-use Rattle.std.proofs.lemmas.Iterator.{YieldsList-from_slice}
-use Rattle.std.proofs.lemmas.Iterator.Search.{all_from_yields_List}
-use Rattle.rc_tuple.specs.ColSet.{has}
-use Rattle.rc_spec.specs.declared.items.Edge.{Edge}
+use Rattle.rc_graph.proofs.Imports.{YieldsList-from_slice, all_from_yields_List, has, Edge}
 use Rattle.rc_graph.proofs.EdgeLemmas.{all_begin_in}
 use Rattle.rc_graph.proofs.order.are_sources_before.Goals as goal
 

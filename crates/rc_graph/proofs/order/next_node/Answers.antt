@@ -1,6 +1,5 @@
 use Rattle.std.proofs.Common.{sym, ap, length, ◌∙◌, inl, inr, arith, below_more}
-use Rattle.std.proofs.lemmas.Bool.{false≢true, cases_lt}
-use Rattle.rc_tuple.specs.RisingSetLaws.{in_has, has_in}
+use Rattle.rc_graph.proofs.Imports.{false≢true, cases_lt, in_has, has_in}
 use Rattle.rc_graph.proofs.order.next_node.Goals as goal
 use Rattle.rc_graph.proofs.order.next_node.Goals.{else-not-has-via-then-not-has+else-are_sources_before, else-not-has-via-else-not-has}
 

@@ -1,6 +1,5 @@
 use Rattle.std.proofs.Common.{◌<◌, sym, subst}
-use Rattle.rc_tuple.specs.ColSet.{with_column}
-use Rattle.rc_tuple.specs.GrowthLaws.{missing}
+use Rattle.rc_graph.proofs.Imports.{with_column, missing}
 use Rattle.rc_graph.proofs.OrderLemmas.{IsOrderOf, order_more, missing_next, order_whole}
 use Rattle.rc_graph.proofs.order.order_nodes.Goals as goal
 

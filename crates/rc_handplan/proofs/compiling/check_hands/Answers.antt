@@ -1,10 +1,5 @@
-use Rattle.std.proofs.Common.{suc, take, drop, sym, refl, subst, arith}
-use Rattle.rc_tuple.specs.RisingSet.{In}
-use Rattle.rc_tuple.specs.RisingSetLaws.{get_or_in}
-use Rattle.rc_handplan.specs.declared.hand.Hand.{Hand}
+use Rattle.rc_handplan.proofs.Imports.{suc, take, drop, sym, refl, subst, arith, In, get_or_in, Hand, op_at, KeepsPlanRules}
 use Rattle.rc_handplan.proofs.CompilingLemmas.{parted, next_too}
-use Rattle.rc_spec.specs.Placement.{op_at}
-use Rattle.rc_plan.specs.PlanRules.{KeepsPlanRules}
 use Rattle.rc_handplan.proofs.compiling.check_hands.Goals.{After-hand-item}
 use Rattle.rc_handplan.proofs.compiling.check_hands.Goals as goal
 

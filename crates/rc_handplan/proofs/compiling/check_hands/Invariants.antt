@@ -1,5 +1,4 @@
-use Rattle.std.proofs.Common.{take}
-use Rattle.rc_handplan.specs.Chosen.{AllKeepRules}
+use Rattle.rc_handplan.proofs.Imports.{take, AllKeepRules}
 use Rattle.rc_handplan.proofs.compiling.check_hands.Given as goal
 
 -- the plans so far keep the rules

@@ -1,9 +1,5 @@
 use Rattle.std.proofs.Common.{ℕ, List, [], ◌∷◌, length, refl, ap, sym, ◌∙◌, subst, arith}
-use Rattle.std.proofs.lemmas.List.{length-append}
-use Rattle.rc_plan.specs.Compiled.{IsPlanOf}
-use Rattle.rc_plan.specs.declared.statement.Statement.{Statement}
-use Rattle.rc_handplan.specs.Chosen.{plan_for, IsChosenBy}
-use Rattle.rc_handplan.specs.ChosenLaws.{written_is_plan}
+use Rattle.rc_handplan.proofs.Imports.{length-append, IsPlanOf, Statement, plan_for, IsChosenBy, written_is_plan}
 use Rattle.rc_handplan.proofs.CompilingLemmas.{plan_too}
 use Rattle.rc_handplan.proofs.compiling.chosen_plans.Goals as goal
 

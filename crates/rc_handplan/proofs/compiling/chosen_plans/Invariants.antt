@@ -1,6 +1,5 @@
 use Rattle.std.proofs.Common.{◌≡◌, ℕ, ◌<◌, ◌≤◌, length}
-use Rattle.rc_plan.specs.Compiled.{IsPlanOf, plan_at}
-use Rattle.rc_handplan.specs.Chosen.{plan_for, IsChosenBy}
+use Rattle.rc_handplan.proofs.Imports.{IsPlanOf, plan_at, plan_for, IsChosenBy}
 use Rattle.rc_handplan.proofs.compiling.chosen_plans.Given as goal
 
 -- the operations so far have their plans, and what is written for the others is still there

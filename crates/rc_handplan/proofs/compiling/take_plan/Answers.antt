@@ -1,6 +1,5 @@
 use Rattle.std.proofs.Common.{◌≡◌, Some, sym, refl, ap, ◌∙◌}
-use Rattle.std.specs.List.{position}
-use Rattle.rc_handplan.specs.Hands.{is_of}
+use Rattle.rc_handplan.proofs.Imports.{position, is_of}
 use Rattle.rc_handplan.proofs.CompilingLemmas.{plan_there, op_there, plan_nowhere, others_stay}
 use Rattle.rc_handplan.proofs.compiling.take_plan.Goals.{In_ok-at}
 use Rattle.rc_handplan.proofs.compiling.take_plan.Goals as goal

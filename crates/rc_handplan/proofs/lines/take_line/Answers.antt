@@ -1,7 +1,5 @@
 use Rattle.std.proofs.Common.{sym, ap, ◌∙◌, subst}
-use Rattle.rc_handplan.specs.Answers.{TakesLine}
-use Rattle.rc_handplan.specs.HandGrammar.{after_start}
-use Rattle.rc_handplan.specs.HandGrammarLaws.{by_start, of_statement}
+use Rattle.rc_handplan.proofs.Imports.{TakesLine, after_start, by_start, of_statement}
 use Rattle.rc_handplan.proofs.lines.take_line.Goals as goal
 
 pub returns-in-Plan : goal.returns-in-Plan

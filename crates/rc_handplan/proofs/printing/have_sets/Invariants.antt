@@ -1,5 +1,4 @@
-use Rattle.std.proofs.Common.{take}
-use Rattle.rc_handplan.specs.Hands.{HaveSets}
+use Rattle.rc_handplan.proofs.Imports.{take, HaveSets}
 use Rattle.rc_handplan.proofs.printing.have_sets.Given as goal
 
 -- the statements so far

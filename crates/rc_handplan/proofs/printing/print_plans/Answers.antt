@@ -1,13 +1,5 @@
 use Rattle.std.proofs.Common.{◌≡◌, ℕ, ◌+◌, ◌<◌, inl, inr, subst, List, [], ◌∷◌, ◌++◌, ap, sym, ◌∙◌, arith}
-use Rattle.std.specs.List.{flat_map, range_with_len}
-use Rattle.std.proofs.lemmas.Bool.{cases_lt}
-use Rattle.std.proofs.lemmas.List.{flat_map_more}
-use Rattle.rc_tuple.specs.ColSetLaws.{range_with_len_more}
-use Rattle.rc_spec.specs.declared.spec.Spec.{Spec}
-use Rattle.rc_plan.specs.PlanText.{plan_text}
-use Rattle.rc_plan.specs.Compiled.{plan_at}
-use Rattle.rc_handplan.specs.Hands.{HaveSets}
-use Rattle.rc_handplan.specs.PlansText.{op_text}
+use Rattle.rc_handplan.proofs.Imports.{flat_map, range_with_len, cases_lt, flat_map_more, range_with_len_more, Spec, plan_text, plan_at, HaveSets, op_text}
 use Rattle.rc_handplan.proofs.printing.print_plans.Goals as goal
 
 -- what holds below a number and of it

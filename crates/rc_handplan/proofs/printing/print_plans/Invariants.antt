@@ -1,8 +1,5 @@
 use Rattle.std.proofs.Common.{◌≡◌, ℕ, ◌<◌}
-use Rattle.std.specs.List.{flat_map, range_with_len}
-use Rattle.rc_plan.specs.Compiled.{plan_at}
-use Rattle.rc_handplan.specs.Hands.{HaveSets}
-use Rattle.rc_handplan.specs.PlansText.{op_text}
+use Rattle.rc_handplan.proofs.Imports.{flat_map, range_with_len, plan_at, HaveSets, op_text}
 use Rattle.rc_handplan.proofs.printing.print_plans.Given as goal
 
 -- the plans of the operations so far

@@ -1,12 +1,5 @@
 use Rattle.std.proofs.Common.{◌≡◌, ℕ, true, false, length, eqb, [], Ok, Err, refl, sym, ap, ◌∙◌, subst}
-use Rattle.rc_text.specs.Lines.{IsLineStart, content_from, content_of, past_end_of}
-use Rattle.rc_reader.specs.Answers.{rest_place}
-use Rattle.rc_spec.specs.declared.spec.Spec.{Spec}
-use Rattle.rc_handplan.specs.Answers.{FailsLine, Refuses, refusal_at}
-use Rattle.rc_handplan.specs.HandGrammar.{hands_reading_to, after_line}
-use Rattle.rc_handplan.specs.HandsLaws.{read_hands}
-use Rattle.rc_handplan.specs.declared.refusal.HandRule.TheVariants.{S8}
-use Rattle.rc_handplan.specs.HandGrammarLaws.{ended, goes_on, none_left, runs_out}
+use Rattle.rc_handplan.proofs.Imports.{IsLineStart, content_from, content_of, past_end_of, rest_place, Spec, FailsLine, Refuses, refusal_at, hands_reading_to, after_line, read_hands, S8, ended, goes_on, none_left, runs_out}
 use Rattle.rc_handplan.proofs.ReadingLemmas.{fails, ends_told, place_behind}
 use Rattle.rc_handplan.proofs.reading.read_plans.Goals.{Then-ends_plans, Then-is_empty}
 use Rattle.rc_handplan.proofs.reading.read_plans.Goals as goal

@@ -1,7 +1,5 @@
 use Rattle.std.proofs.Common.{◌≡◌, length}
-use Rattle.rc_text.specs.Lines.{IsLineStart, content_from, past_end_of}
-use Rattle.rc_reader.specs.Answers.{rest_place}
-use Rattle.rc_handplan.specs.HandGrammar.{hands_from, hands_reading_to}
+use Rattle.rc_handplan.proofs.Imports.{IsLineStart, content_from, past_end_of, rest_place, hands_from, hands_reading_to}
 use Rattle.rc_handplan.proofs.reading.read_plans.Given as goal
 
 -- what the lines that are left give behind the plans so far is what all lines give

@@ -1,7 +1,5 @@
 use Rattle.std.proofs.Common.{◌≡◌, drop}
-use Rattle.rc_reader.specs.Forms.{texts}
-use Rattle.rc_spec.specs.Names.{column_names}
-use Rattle.rc_handplan.specs.Statements.{columns_named}
+use Rattle.rc_handplan.proofs.Imports.{texts, column_names, columns_named}
 use Rattle.rc_handplan.proofs.ColumnLemmas.{columns_from}
 use Rattle.rc_handplan.proofs.statements.columns_named.Given as goal
 

@@ -1,9 +1,5 @@
 use Rattle.std.proofs.Common.{◌∙◌, ◌<◌, ◌==◌, ap, arith, filter, length, map, not, subst, sym}
-use Rattle.std.specs.List.{remove}
-use Rattle.std.proofs.lemmas.List.{with_items_is}
-use Rattle.rc_spec.specs.Decomposition.{edge_at}
-use Rattle.rc_spec.specs.DecompositionLaws.{edge_among, edge_at_found}
-use Rattle.rc_inline.specs.Contraction.{renumbered_place, rejoined}
+use Rattle.rc_inline.proofs.Imports.{remove, with_items_is, edge_at, edge_among, edge_at_found, renumbered_place, rejoined}
 use Rattle.rc_inline.proofs.contraction.contracted.Goals as goal
 
 pub remove-requires : goal.remove-requires

@@ -1,6 +1,5 @@
 use Rattle.std.proofs.Common.{◌∙◌, ap, set, sym}
-use Rattle.std.proofs.lemmas.List.Edits.{map_over_more}
-use Rattle.rc_inline.specs.Contraction.{rejoined}
+use Rattle.rc_inline.proofs.Imports.{map_over_more, rejoined}
 use Rattle.rc_inline.proofs.contraction.rejoin_all.Goals as goal
 
 pub loop-edge-preserved : goal.loop-edge-preserved

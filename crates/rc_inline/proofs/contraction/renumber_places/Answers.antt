@@ -1,7 +1,5 @@
 use Rattle.std.proofs.Common.{◌∙◌, ap, arith, set}
-use Rattle.std.proofs.lemmas.List.{get_or_default}
-use Rattle.std.proofs.lemmas.List.Edits.{map_over_more}
-use Rattle.rc_inline.specs.Contraction.{renumbered_place}
+use Rattle.rc_inline.proofs.Imports.{get_or_default, map_over_more, renumbered_place}
 use Rattle.rc_inline.proofs.contraction.renumber_places.Goals as goal
 
 pub loop-place-preserved : goal.loop-place-preserved

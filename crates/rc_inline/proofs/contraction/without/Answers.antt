@@ -1,5 +1,4 @@
-use Rattle.std.proofs.Common.{rules}
-use Rattle.std.proofs.lemmas.Fn.{filter_same}
+use Rattle.rc_inline.proofs.Imports.{rules, filter_same}
 use Rattle.rc_inline.proofs.contraction.without.Goals as goal
 
 pub returns : goal.returns

@@ -1,10 +1,5 @@
 use Rattle.std.proofs.Common.{◌≡◌, ◌∙◌, Some, ap, arith, length, subst, sym}
-use Rattle.rc_spec.specs.declared.spec.Spec.{Spec}
-use Rattle.rc_spec.specs.Acceptance.{IsAccepted, IsSealed}
-use Rattle.rc_spec.specs.Names.{IsWellNamed}
-use Rattle.rc_inline.specs.Contraction.{contracted, first_inlinable}
-use Rattle.rc_inline.specs.Inlining.{inlined}
-use Rattle.rc_inline.specs.InliningLaws.{contracted_shorter, inlined_more, inlined_named, inlined_rest}
+use Rattle.rc_inline.proofs.Imports.{Spec, IsAccepted, IsSealed, IsWellNamed, contracted, first_inlinable, inlined, contracted_shorter, inlined_more, inlined_named, inlined_rest}
 use Rattle.rc_inline.proofs.AcceptedLemmas.{contracted_sealed}
 use Rattle.rc_inline.proofs.inlining.inline.Goals.{After-contracted}
 use Rattle.rc_inline.proofs.inlining.inline.Goals as goal

@@ -1,6 +1,5 @@
 use Rattle.std.proofs.Common.{ℕ, ◌<◌}
-use Rattle.rc_spec.specs.Placement.{KeepsP3}
-use Rattle.rc_inline.specs.Placing.{co_placed}
+use Rattle.rc_inline.proofs.Imports.{KeepsP3, co_placed}
 use Rattle.rc_inline.proofs.placing.are_ordered_then.Given as goal
 
 abbrev pub invariant-loop-edge : goal.invariant-loop-edge

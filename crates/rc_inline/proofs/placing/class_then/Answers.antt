@@ -1,7 +1,5 @@
 use Rattle.std.proofs.Common.{◌∙◌, ap, sym}
-use Rattle.rc_spec.specs.declared.spec.Spec.{Spec}
-use Rattle.rc_inline.specs.Placing.{widest}
-use Rattle.rc_inline.specs.PlacingLaws.{co_class}
+use Rattle.rc_inline.proofs.Imports.{Spec, widest, co_class}
 use Rattle.rc_inline.proofs.placing.class_then.Goals as goal
 
 pub returns : goal.returns

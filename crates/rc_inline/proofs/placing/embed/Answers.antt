@@ -1,9 +1,5 @@
 use Rattle.std.proofs.Common.{◌∙◌, ap, subst, sym}
-use Rattle.std.proofs.lemmas.Result.{IfOk-weaker}
-use Rattle.rc_spec.specs.Names.{IsWellNamed}
-use Rattle.rc_inline.specs.Contraction.{first_inlinable}
-use Rattle.rc_inline.specs.Placing.{placed_together}
-use Rattle.rc_inline.specs.PlacingLaws.{embedded_is, together_inlinable, together_named}
+use Rattle.rc_inline.proofs.Imports.{IfOk-weaker, IsWellNamed, first_inlinable, placed_together, embedded_is, together_inlinable, together_named}
 use Rattle.rc_inline.proofs.placing.embed.Goals as goal
 
 pub returns-clause-value : goal.returns-clause-value

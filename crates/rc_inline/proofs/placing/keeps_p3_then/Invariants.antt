@@ -1,7 +1,5 @@
 use Rattle.std.proofs.Common.{◌≡◌, ℕ, ◌<◌, ◌≤◌}
-use Rattle.rc_spec.specs.Decomposition.{edge_at}
-use Rattle.rc_spec.specs.Placement.{class_of}
-use Rattle.rc_inline.specs.Placing.{co_placed}
+use Rattle.rc_inline.proofs.Imports.{edge_at, class_of, co_placed}
 use Rattle.rc_inline.proofs.placing.keeps_p3_then.Given as goal
 
 abbrev pub invariant-loop-other : goal.invariant-loop-other

@@ -1,9 +1,5 @@
 use Rattle.std.proofs.Common.{◌∙◌, ◌<◌, ap, arith, get_or, length, set, subst, sym}
-use Rattle.std.proofs.lemmas.List.{get_or_default}
-use Rattle.std.proofs.lemmas.List.Edits.{map_over_more}
-use Rattle.rc_tuple.specs.RisingSetLaws.{get_or_in}
-use Rattle.rc_spec.specs.declared.items.Place.{Place}
-use Rattle.rc_inline.specs.Placing.{moved}
+use Rattle.rc_inline.proofs.Imports.{get_or_default, map_over_more, get_or_in, Place, moved}
 use Rattle.rc_inline.proofs.CoPlacedLemmas.{at_rest}
 use Rattle.rc_inline.proofs.placing.move_places.Goals as goal
 

@@ -1,11 +1,5 @@
 use Rattle.std.proofs.Common.{◌≡◌, ◌∙◌, ap, subst, sym}
-use Rattle.std.proofs.lemmas.Bool.{iff_false}
-use Rattle.rc_spec.specs.declared.spec.Spec.{Spec}
-use Rattle.rc_spec.specs.Acceptance.{IsAccepted, IsSealed}
-use Rattle.rc_spec.specs.InRange.{IsWellFormed}
-use Rattle.rc_spec.specs.Order.{IsTopologicalOrder}
-use Rattle.rc_inline.specs.Placing.{co_placed}
-use Rattle.rc_inline.specs.PlacingLaws.{AreOrdered, order_tested, together_moved, unordered_stay}
+use Rattle.rc_inline.proofs.Imports.{iff_false, Spec, IsAccepted, IsSealed, IsWellFormed, IsTopologicalOrder, co_placed, AreOrdered, order_tested, together_moved, unordered_stay}
 use Rattle.rc_inline.proofs.CoPlacedLemmas.{co_accepted, co_formed, order_same}
 use Rattle.rc_inline.proofs.placing.place_together.Goals.{After-co_placed}
 use Rattle.rc_inline.proofs.placing.place_together.Goals as goal

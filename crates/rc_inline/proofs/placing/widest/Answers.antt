@@ -1,10 +1,5 @@
 use Rattle.std.proofs.Common.{◌≡◌, ◌∙◌, ap, get_or, sym}
-use Rattle.std.specs.List.{position}
-use Rattle.std.specs.Option.{option_map_or}
-use Rattle.std.proofs.lemmas.List.{get_or_default}
-use Rattle.rc_spec.specs.Placement.{no_class}
-use Rattle.rc_spec.specs.declared.items.Class.{Class}
-use Rattle.rc_inline.specs.Placing.{is_widest}
+use Rattle.rc_inline.proofs.Imports.{position, option_map_or, get_or_default, no_class, Class, is_widest}
 use Rattle.rc_inline.proofs.placing.widest.Goals.{After-position_of_widest}
 use Rattle.rc_inline.proofs.placing.widest.Goals as goal
 

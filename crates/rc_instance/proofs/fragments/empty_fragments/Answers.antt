@@ -1,15 +1,5 @@
 use Rattle.std.proofs.Common.{◌≡◌, ◌+◌, ◌++◌, ◌∷◌, [], length, inl, inr, sym, ap, subst, ◌∙◌, arith}
-use Rattle.std.specs.Prelude.{List}
-use Rattle.std.proofs.lemmas.List.{length-append}
-use Rattle.rc_tuple.specs.RisingSet.{In}
-use Rattle.rc_tuple.specs.RisingSetLaws.{in_append}
-use Rattle.rc_spec.specs.Acceptance.{IsSealed}
-use Rattle.rc_spec.specs.PlacementLaws.{placed_total}
-use Rattle.rc_spec.specs.Stripes.{stripe_total}
-use Rattle.rc_fragment.specs.Fragment.{edge_table}
-use Rattle.rc_fragment.specs.FragmentRows.{FragmentRows, no_rows}
-use Rattle.rc_fragment.specs.Keep.{at_rest, kept_rows}
-use Rattle.rc_instance.specs.Fragments.{IsEmptyFragment}
+use Rattle.rc_instance.proofs.Imports.{List, length-append, In, in_append, IsSealed, placed_total, stripe_total, edge_table, FragmentRows, no_rows, at_rest, kept_rows, IsEmptyFragment}
 use Rattle.rc_instance.proofs.EmptyLemmas.{empty_table}
 use Rattle.rc_instance.proofs.fragments.empty_fragments.Goals as goal
 

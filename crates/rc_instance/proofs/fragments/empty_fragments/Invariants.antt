@@ -1,8 +1,5 @@
 use Rattle.std.proofs.Common.{◌≡◌, length}
-use Rattle.rc_tuple.specs.RisingSet.{In}
-use Rattle.rc_fragment.specs.Fragment.{edge_table}
-use Rattle.rc_fragment.specs.FragmentRows.{FragmentRows}
-use Rattle.rc_instance.specs.Fragments.{IsEmptyFragment}
+use Rattle.rc_instance.proofs.Imports.{In, edge_table, FragmentRows, IsEmptyFragment}
 use Rattle.rc_instance.proofs.fragments.empty_fragments.Given as goal
 
 abbrev pub invariant-loop : goal.invariant-loop

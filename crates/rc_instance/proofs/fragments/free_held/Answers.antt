@@ -1,11 +1,5 @@
 use Rattle.std.proofs.Common.{◌≡◌, ◌+◌, ◌<◌, ℕ, length, drop, get_or, sym, ap, ◌∙◌, arith, Some, None}
-use Rattle.std.specs.Prelude.{List, Option}
-use Rattle.std.specs.List.{slice_get}
-use Rattle.std.proofs.lemmas.List.{drop_more, length-set}
-use Rattle.rc_tuple.specs.RisingSetLaws.{get_or_in}
-use Rattle.rc_spec.specs.declared.lock.Mode.{Mode}
-use Rattle.rc_instance.specs.Fragments.{each_at}
-use Rattle.rc_instance.specs.InstanceLaws.{place_in}
+use Rattle.rc_instance.proofs.Imports.{List, Option, slice_get, drop_more, length-set, get_or_in, Mode, each_at, place_in}
 use Rattle.rc_instance.proofs.NumberLemmas.{with_at-set}
 use Rattle.rc_instance.proofs.fragments.free_held.Goals as goal
 

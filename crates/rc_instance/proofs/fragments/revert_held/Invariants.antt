@@ -1,6 +1,5 @@
 use Rattle.std.proofs.Common.{◌≡◌, length, drop}
-use Rattle.rc_fragment.specs.FragmentRows.{rolled_back}
-use Rattle.rc_instance.specs.Fragments.{each_at}
+use Rattle.rc_instance.proofs.Imports.{rolled_back, each_at}
 use Rattle.rc_instance.proofs.fragments.revert_held.Given as goal
 
 abbrev pub invariant-loop-stripe : goal.invariant-loop-stripe

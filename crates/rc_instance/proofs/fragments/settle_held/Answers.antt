@@ -1,13 +1,5 @@
 use Rattle.std.proofs.Common.{◌≡◌, ◌+◌, ◌<◌, ℕ, length, drop, get_or, refl, sym, ap, ◌∙◌, arith}
-use Rattle.std.specs.Prelude.{List}
-use Rattle.std.specs.List.{slice_get}
-use Rattle.std.proofs.Common.{Some}
-use Rattle.std.proofs.Math.ListN.{set}
-use Rattle.std.proofs.lemmas.List.{drop_more, length-set}
-use Rattle.std.proofs.lemmas.Option.{slice_get_read}
-use Rattle.rc_tuple.specs.RisingSetLaws.{get_or_in}
-use Rattle.rc_fragment.specs.FragmentRows.{FragmentRows, settled}
-use Rattle.rc_instance.specs.Fragments.{each_at}
+use Rattle.rc_instance.proofs.Imports.{List, slice_get, Some, set, drop_more, length-set, slice_get_read, get_or_in, FragmentRows, settled, each_at}
 use Rattle.rc_instance.proofs.NumberLemmas.{with_at-set}
 use Rattle.rc_instance.proofs.fragments.settle_held.Goals as goal
 

@@ -1,10 +1,5 @@
 use Rattle.std.proofs.Common.{arith, ap, subst, ◌∙◌}
-use Rattle.std.specs.List.{flat_map}
-use Rattle.std.proofs.lemmas.List.{take_all}
-use Rattle.rc_tuple.specs.RisingSet.{In, gather}
-use Rattle.rc_tuple.specs.ColSetLaws.{in_inter}
-use Rattle.rc_tuple.specs.Tuple.{merges_of, tuple_cmp, project}
-use Rattle.rc_instance.specs.Index.{found_at}
+use Rattle.rc_instance.proofs.Imports.{flat_map, take_all, In, gather, in_inter, merges_of, tuple_cmp, project, found_at}
 use Rattle.rc_instance.proofs.IndexLemmas.{joined}
 use Rattle.rc_instance.proofs.hash_join.join.Goals as goal
 

@@ -1,7 +1,5 @@
 use Rattle.std.proofs.Common.{◌≡◌, take}
-use Rattle.std.specs.List.{flat_map}
-use Rattle.rc_tuple.specs.Tuple.{merges_of, project}
-use Rattle.rc_instance.specs.Index.{found_at}
+use Rattle.rc_instance.proofs.Imports.{flat_map, merges_of, project, found_at}
 use Rattle.rc_instance.proofs.hash_join.join.Given as goal
 
 abbrev pub invariant-loop-tuple : goal.invariant-loop-tuple

@@ -1,8 +1,5 @@
 use Rattle.std.proofs.Common.{◌≡◌, ◌++◌, rules, sym, ap, subst, ◌∙◌, Some, None}
-use Rattle.std.specs.Prelude.{OnOk}
-use Rattle.std.proofs.lemmas.List.{append-nil}
-use Rattle.rc_tuple.specs.Tuple.{Pairs, merges_of, project}
-use Rattle.rc_instance.specs.Index.{Entries, found_at, tuples_in, tuples_of}
+use Rattle.rc_instance.proofs.Imports.{OnOk, append-nil, Pairs, merges_of, project, Entries, found_at, tuples_in, tuples_of}
 use Rattle.rc_instance.proofs.IndexLemmas.{found}
 use Rattle.rc_instance.proofs.hash_join.push_found.Goals as goal
 

@@ -1,6 +1,5 @@
 use Rattle.std.proofs.Common.{◌≡◌, ◌++◌, drop}
-use Rattle.rc_tuple.specs.Tuple.{merges_of}
-use Rattle.rc_instance.specs.Index.{tuples_of}
+use Rattle.rc_instance.proofs.Imports.{merges_of, tuples_of}
 use Rattle.rc_instance.proofs.hash_join.push_merges.Given as goal
 
 -- what was merged and what is left to merge is the whole

@@ -1,9 +1,4 @@
-use Rattle.std.proofs.Common.{arith, sym, subst}
-use Rattle.std.proofs.lemmas.List.{take_all}
-use Rattle.rc_tuple.specs.RisingSet.{In}
-use Rattle.rc_tuple.specs.ColSet.{Within}
-use Rattle.rc_tuple.specs.ColSetLaws.{in_inter}
-use Rattle.rc_tuple.specs.Tuple.{Pairs, IsTuple, cols_of}
+use Rattle.rc_instance.proofs.Imports.{arith, sym, subst, take_all, In, Within, in_inter, Pairs, IsTuple, cols_of}
 use Rattle.rc_instance.proofs.IndexLemmas.{in_more}
 use Rattle.rc_instance.proofs.hash_join.shared_columns.Goals as goal
 

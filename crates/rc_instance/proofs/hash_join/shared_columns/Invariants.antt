@@ -1,7 +1,4 @@
-use Rattle.std.proofs.Common.{take}
-use Rattle.rc_tuple.specs.RisingSet.{In}
-use Rattle.rc_tuple.specs.ColSet.{Within}
-use Rattle.rc_tuple.specs.Tuple.{Pairs, IsTuple, cols_of}
+use Rattle.rc_instance.proofs.Imports.{take, In, Within, Pairs, IsTuple, cols_of}
 use Rattle.rc_instance.proofs.hash_join.shared_columns.Given as goal
 
 abbrev pub invariant-loop-tuple : goal.invariant-loop-tuple

@@ -1,7 +1,6 @@
 use Rattle.std.proofs.Common.{◌≡◌, rules, sym, ap, subst, ◌∙◌, Some, None}
 use Rattle.std.specs.Prelude.{◌++◌, [], ◌∷◌}
-use Rattle.rc_tuple.specs.Tuple.{Pairs}
-use Rattle.rc_instance.specs.Index.{Entries, IsAdded, found_at, tuples_in, tuples_of}
+use Rattle.rc_instance.proofs.Imports.{Pairs, Entries, IsAdded, found_at, tuples_in, tuples_of}
 use Rattle.rc_instance.proofs.IndexLemmas.{added, found, tuples_of-more}
 use Rattle.rc_instance.proofs.index.add.Goals as goal
 

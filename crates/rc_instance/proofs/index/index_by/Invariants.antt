@@ -1,5 +1,4 @@
-use Rattle.std.proofs.Common.{take}
-use Rattle.rc_instance.specs.Index.{IsIndexed}
+use Rattle.rc_instance.proofs.Imports.{take, IsIndexed}
 use Rattle.rc_instance.proofs.index.index_by.Given as goal
 
 abbrev pub invariant-loop-tuple : goal.invariant-loop-tuple

@@ -1,12 +1,5 @@
 use Rattle.std.proofs.Common.{◌≡◌, ◌<◌, ℕ, length, sym, ap, subst, ◌∙◌, arith}
-use Rattle.std.specs.Prelude.{List}
-use Rattle.std.proofs.lemmas.List.FromFn.{length-map-range_with_len}
-use Rattle.rc_tuple.specs.Tuple.{Pairs}
-use Rattle.rc_spec.specs.Contents.{join}
-use Rattle.rc_spec.specs.Fragments.{EdgeRow, tuples_of_edge}
-use Rattle.rc_fragment.specs.Fragment.{edge_table, shape_of}
-use Rattle.rc_fragment.specs.declared.shape.EdgeShape.{EdgeShape}
-use Rattle.rc_instance.specs.Instance.{rows_of_fragments}
+use Rattle.rc_instance.proofs.Imports.{List, length-map-range_with_len, Pairs, join, EdgeRow, tuples_of_edge, edge_table, shape_of, EdgeShape, rows_of_fragments}
 use Rattle.rc_instance.proofs.RepresentLemmas.{first_joined_more, join_of_edge}
 use Rattle.rc_instance.proofs.represent.joined_rows.Goals as goal
 

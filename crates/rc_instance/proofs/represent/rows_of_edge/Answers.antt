@@ -1,11 +1,5 @@
 use Rattle.std.proofs.Common.{◌≡◌, ◌<◌, ◌++◌, ℕ, length, refl, take, sym, ap, subst, ◌∙◌}
-use Rattle.std.specs.Prelude.{List}
-use Rattle.std.proofs.lemmas.Option.{slice_get_read}
-use Rattle.rc_tuple.specs.RisingSetLaws.{slice_get_in}
-use Rattle.rc_tuple.specs.Tuple.{Pairs}
-use Rattle.rc_fragment.specs.Fragment.{AreAllRows}
-use Rattle.rc_instance.specs.Instance.{rows_of_fragments}
-use Rattle.rc_fragment.specs.FragmentRows.{FragmentRows}
+use Rattle.rc_instance.proofs.Imports.{List, slice_get_read, slice_get_in, Pairs, AreAllRows, rows_of_fragments, FragmentRows}
 use Rattle.rc_instance.proofs.RepresentLemmas.{all_more, rows_more}
 use Rattle.rc_instance.proofs.represent.rows_of_edge.Goals as goal
 

@@ -1,8 +1,5 @@
 use Rattle.std.proofs.Common.{◌≡◌, ◌++◌, ◌≤◌, ◌+◌, length, map}
-use Rattle.std.specs.List.{AllByRecursion}
-use Rattle.std.specs.Prelude.{vec_capacity}
-use Rattle.std.specs.Vec.Iter.{into_iter_items, into_iter_len}
-use Rattle.rc_fragment.specs.Keep.{IsAtRest, kept_rows}
+use Rattle.rc_instance.proofs.Imports.{AllByRecursion, vec_capacity, into_iter_items, into_iter_len, IsAtRest, kept_rows}
 use Rattle.rc_instance.proofs.room.kept_in.Given as goal
 
 abbrev pub invariant-loop-fragment : goal.invariant-loop-fragment

@@ -1,7 +1,5 @@
 use Rattle.std.proofs.Common.{◌≡◌, ◌++◌, ◌≤◌, ◌+◌, length, map}
-use Rattle.std.specs.Prelude.{vec_capacity}
-use Rattle.std.specs.Vec.Iter.{into_iter_items, into_iter_len}
-use Rattle.rc_fragment.specs.Keep.{at_rest}
+use Rattle.rc_instance.proofs.Imports.{vec_capacity, into_iter_items, into_iter_len, at_rest}
 use Rattle.rc_instance.proofs.room.with_kept.Given as goal
 
 abbrev pub invariant-loop-keep : goal.invariant-loop-keep

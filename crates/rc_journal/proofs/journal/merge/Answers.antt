@@ -1,13 +1,5 @@
 use Rattle.std.proofs.Common.{◌≡◌, ◌<◌, [], ◌++◌, List, length, sym, ap, subst, ◌∙◌, refl, arith}
-use Rattle.std.specs.Vec.Iter.{into_iter_items}
-use Rattle.std.proofs.lemmas.List.{nil_from_length}
-use Rattle.rc_tuple.specs.RisingSet.{In}
-use Rattle.rc_tuple.specs.RisingSetLaws.{append_in_left, append_in_right}
-use Rattle.rc_rel.specs.declared.entry.Entry.{Entry}
-use Rattle.rc_rel.specs.declared.entry.Placed.{Placed}
-use Rattle.rc_journal.specs.PartEntries.{PartEntries}
-use Rattle.rc_journal.specs.Merge.{IsMerged, placed_of, with_all}
-use Rattle.rc_journal.specs.MergeLaws.{length-with_all, with_all-append, places_below, merged_with, merged_is_history}
+use Rattle.rc_journal.proofs.Imports.{into_iter_items, nil_from_length, In, append_in_left, append_in_right, Entry, Placed, PartEntries, IsMerged, placed_of, with_all, length-with_all, with_all-append, places_below, merged_with, merged_is_history}
 use Rattle.rc_journal.proofs.MovesLemmas.{written}
 use Rattle.rc_journal.proofs.journal.merge.Goals as goal
 

@@ -1,8 +1,5 @@
 use Rattle.std.proofs.Common.{◌≡◌, ◌<◌, length}
-use Rattle.std.specs.Vec.Iter.{into_iter_items, into_iter_len}
-use Rattle.rc_tuple.specs.RisingSet.{In}
-use Rattle.rc_rel.specs.declared.entry.Placed.{Placed}
-use Rattle.rc_journal.specs.Merge.{placed_of, with_all}
+use Rattle.rc_journal.proofs.Imports.{into_iter_items, into_iter_len, In, Placed, placed_of, with_all}
 use Rattle.rc_journal.proofs.journal.merge.Given as goal
 
 abbrev pub invariant-loop-part : goal.invariant-loop-part

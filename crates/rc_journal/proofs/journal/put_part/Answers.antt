@@ -1,8 +1,5 @@
 use Rattle.std.proofs.Common.{◌≡◌, ◌<◌, [], ◌∷◌, length, sym, ap, subst, ◌∙◌, inl, inr, refl, arith}
-use Rattle.std.specs.Vec.Iter.{into_iter_items}
-use Rattle.std.proofs.lemmas.List.{length-set, nil_from_length}
-use Rattle.rc_tuple.specs.RisingSet.{In}
-use Rattle.rc_journal.specs.Merge.{with_all}
+use Rattle.rc_journal.proofs.Imports.{into_iter_items, length-set, nil_from_length, In, with_all}
 use Rattle.rc_journal.proofs.journal.put_part.Goals as goal
 
 pub loop-placed-init : goal.loop-placed-init

@@ -1,11 +1,5 @@
 use Rattle.std.proofs.Common.{◌≡◌, ◌+◌, List, [], ◌∷◌, ◌++◌, length, take, sym, ap, subst, ◌∙◌, arith, length-append}
-use Rattle.std.specs.List.{slice_get}
-use Rattle.std.specs.Vec.Iter.{into_iter_items}
-use Rattle.std.proofs.lemmas.List.{append-nil, append_assoc, nil_from_length}
-use Rattle.rc_rel.specs.declared.entry.Entry.{Entry}
-use Rattle.rc_rel.specs.History.{placed}
-use Rattle.rc_journal.specs.PartEntries.{PartEntries}
-use Rattle.rc_journal.specs.Parting.{with_placed}
+use Rattle.rc_journal.proofs.Imports.{slice_get, into_iter_items, append-nil, append_assoc, nil_from_length, Entry, placed, PartEntries, with_placed}
 use Rattle.rc_journal.proofs.MovesLemmas.{written}
 use Rattle.rc_journal.proofs.PartingLemmas.{HaveOwn, all_moved, among, length-pushed_at, one_moved, room_for_one, take_more}
 use Rattle.rc_journal.proofs.parting.part_again.Goals as goal

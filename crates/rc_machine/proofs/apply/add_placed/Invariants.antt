@@ -1,6 +1,4 @@
-use Rattle.rc_spec.specs.declared.spec.Spec.{Spec}
-use Rattle.rc_fragment.specs.Implied.{raised_all}
-use Rattle.rc_fragment.specs.Tuples.{CanAddTuple}
+use Rattle.rc_machine.proofs.Imports.{Spec, raised_all, CanAddTuple}
 use Rattle.rc_machine.proofs.PlaceLemmas.{AreChangedFirst}
 use Rattle.rc_machine.proofs.apply.add_placed.Given as goal
 

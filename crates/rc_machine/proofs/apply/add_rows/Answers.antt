@@ -1,11 +1,5 @@
 use Rattle.std.proofs.Common.{◌≡◌, ap, map, subst, sym, ◌∙◌}
-use Rattle.rc_spec.specs.CountedRows.{raised}
-use Rattle.rc_spec.specs.Fragments.{edge_numbers}
-use Rattle.rc_fragment.specs.Holder.{Holding, held_of}
-use Rattle.rc_fragment.specs.Implied.{raised_all}
-use Rattle.rc_fragment.specs.Tuples.{CanAddTuple}
-use Rattle.rc_machine.specs.Apply.{CanChange, all_changed, place_in}
-use Rattle.rc_plan.specs.EdgeClasses.{classes_of}
+use Rattle.rc_machine.proofs.Imports.{raised, edge_numbers, Holding, held_of, raised_all, CanAddTuple, CanChange, all_changed, place_in, classes_of}
 use Rattle.rc_machine.proofs.ClassLemmas.{all_among, are_places, can_insert_place, changed_by_class, each_place, each_raised}
 use Rattle.rc_machine.proofs.ReadLemmas.{on_ok}
 use Rattle.rc_machine.proofs.apply.add_rows.Given.{Over}

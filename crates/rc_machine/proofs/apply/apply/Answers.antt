@@ -1,7 +1,5 @@
-use Rattle.std.proofs.Common.{ap, subst, map}
-use Rattle.rc_machine.specs.Applied.{CanApply}
+use Rattle.rc_machine.proofs.Imports.{ap, subst, map, CanApply, held_of, reverted}
 use Rattle.rc_machine.proofs.StripeLemmas.{no_stripes}
-use Rattle.rc_fragment.specs.Holder.{held_of, reverted}
 use Rattle.rc_machine.proofs.ReadLemmas.{on_err}
 use Rattle.rc_machine.proofs.apply.apply.Goals as goal
 

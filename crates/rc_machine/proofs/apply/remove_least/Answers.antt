@@ -1,7 +1,5 @@
 use Rattle.std.proofs.Common.{◌≡◌, ◌<◌, [], get_or, length, subst, sym, ◌∙◌, arith}
-use Rattle.std.proofs.lemmas.Bool.{eqb-false}
-use Rattle.rc_tuple.specs.RisingSet.{In}
-use Rattle.rc_tuple.specs.RisingSetLaws.{get_or_in}
+use Rattle.rc_machine.proofs.Imports.{eqb-false, In, get_or_in}
 use Rattle.rc_machine.proofs.StripeLemmas.{no_stripes}
 use Rattle.rc_machine.proofs.apply.remove_least.Given.{Over}
 use Rattle.rc_machine.proofs.apply.remove_least.Goals.{In_ok-removed}

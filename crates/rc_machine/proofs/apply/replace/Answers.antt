@@ -1,18 +1,5 @@
 use Rattle.std.proofs.Common.{◌≡◌, ◌∙◌, Bool, List, ap, filter, map, subst, sym, ℕ}
-use Rattle.rc_tuple.specs.ColSet.{has}
-use Rattle.rc_tuple.specs.RisingSet.{In}
-use Rattle.rc_tuple.specs.RisingSetLaws.{filter_in, has_in, in_filter}
-use Rattle.rc_spec.specs.CountedRows.{lowered, raised}
-use Rattle.rc_spec.specs.Fragments.{edge_numbers}
-use Rattle.rc_spec.specs.Placement.{class_of}
-use Rattle.rc_spec.specs.declared.spec.Spec.{Spec}
-use Rattle.rc_fragment.specs.Fragment.{edge_table}
-use Rattle.rc_fragment.specs.Holder.{HeldStripe, Holding, held_of}
-use Rattle.rc_fragment.specs.Implied.{lowered_all, raised_all}
-use Rattle.rc_fragment.specs.Tuples.{CanAddTuple, HasTuple}
-use Rattle.rc_machine.specs.Applied.{AreTakenAlike}
-use Rattle.rc_machine.specs.Apply.{AreAllCounted, CanChange, all_changed, edges_with, has_column, place_in}
-use Rattle.rc_plan.specs.EdgeClasses.{classes_of}
+use Rattle.rc_machine.proofs.Imports.{has, In, filter_in, has_in, in_filter, lowered, raised, edge_numbers, class_of, Spec, edge_table, HeldStripe, Holding, held_of, lowered_all, raised_all, CanAddTuple, HasTuple, AreTakenAlike, AreAllCounted, CanChange, all_changed, edges_with, has_column, place_in, classes_of}
 use Rattle.rc_machine.proofs.ApplyLemmas.{CanAdd}
 use Rattle.rc_machine.proofs.ChangeLemmas.{lowered_local}
 use Rattle.rc_machine.proofs.ClassLemmas.{are_places, can_add_place, can_remove_place, changed_by_class, each_lowered, each_place, each_raised, no_column}

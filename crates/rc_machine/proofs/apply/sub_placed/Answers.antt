@@ -1,9 +1,4 @@
-use Rattle.std.proofs.Common.{get_or, arith}
-use Rattle.std.proofs.lemmas.List.{get_or_default}
-use Rattle.rc_fragment.specs.Holder.{Holding}
-use Rattle.rc_fragment.specs.Implied.{lowered_all}
-use Rattle.rc_fragment.specs.Tuples.{HasTuple, changes_of_class}
-use Rattle.rc_machine.specs.declared.stripe.ClassStripe.{ClassStripe}
+use Rattle.rc_machine.proofs.Imports.{get_or, arith, get_or_default, Holding, lowered_all, HasTuple, changes_of_class, ClassStripe}
 use Rattle.rc_machine.proofs.PlaceLemmas.{all_are_changed, next_can, next_has_room, no_place, none_changed, one_changed_more}
 use Rattle.rc_machine.proofs.apply.sub_placed.Goals as goal
 

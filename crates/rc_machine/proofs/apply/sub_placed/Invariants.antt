@@ -1,6 +1,4 @@
-use Rattle.rc_spec.specs.declared.spec.Spec.{Spec}
-use Rattle.rc_fragment.specs.Implied.{lowered_all}
-use Rattle.rc_fragment.specs.Tuples.{HasTuple}
+use Rattle.rc_machine.proofs.Imports.{Spec, lowered_all, HasTuple}
 use Rattle.rc_machine.proofs.PlaceLemmas.{AreChangedFirst}
 use Rattle.rc_machine.proofs.apply.sub_placed.Given as goal
 

@@ -1,11 +1,5 @@
 use Rattle.std.proofs.Common.{◌≡◌, ap, map, subst, sym, ◌∙◌}
-use Rattle.rc_spec.specs.CountedRows.{lowered}
-use Rattle.rc_spec.specs.Fragments.{edge_numbers}
-use Rattle.rc_fragment.specs.Holder.{Holding, held_of}
-use Rattle.rc_fragment.specs.Implied.{lowered_all}
-use Rattle.rc_fragment.specs.Tuples.{HasTuple}
-use Rattle.rc_machine.specs.Apply.{CanChange, all_changed, place_in}
-use Rattle.rc_plan.specs.EdgeClasses.{classes_of}
+use Rattle.rc_machine.proofs.Imports.{lowered, edge_numbers, Holding, held_of, lowered_all, HasTuple, CanChange, all_changed, place_in, classes_of}
 use Rattle.rc_machine.proofs.ClassLemmas.{all_among, are_places, can_remove_place, changed_by_class, each_place, each_lowered}
 use Rattle.rc_machine.proofs.ReadLemmas.{on_ok}
 use Rattle.rc_machine.proofs.apply.sub_rows.Given.{Over}

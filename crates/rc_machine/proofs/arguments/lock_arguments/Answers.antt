@@ -1,24 +1,5 @@
 use Rattle.std.proofs.Common.{◌≡◌, ◌+◌, ◌∷◌, ◌++◌, [], ℕ, None, List, Err, drop, get_or, take, true, refl, sym, ap, subst, ◌∙◌, inl, arith, add-one}
-use Rattle.std.proofs.Math.Seq.{take-suc}
-use Rattle.std.proofs.lemmas.Bool.{false≢true}
-use Rattle.std.proofs.lemmas.List.{map-append}
-use Rattle.std.specs.Ordering.{nat_cmp}
-use Rattle.rc_tuple.specs.RisingSet.{In, gather}
-use Rattle.rc_tuple.specs.RisingSetLaws.{gather_in, nat_order}
-use Rattle.rc_spec.specs.Stripes.{physical_stripe}
-use Rattle.rc_fragment.specs.Holder.{AreOfOneRelation, HeldStripe, MayTake, held_of}
-use Rattle.rc_fragment.specs.HoldingLaws.{goes_on_again, goes_on_same}
-use Rattle.rc_spec.specs.declared.lock.Mode.{Mode}
-use Rattle.rc_tuple.specs.Tuple.{cols_of}
-use Rattle.rc_plan.specs.Access.{is_given_lock}
-use Rattle.rc_plan.specs.AccessLaws.{first_at, given_lock_falls, given_lock_locks, key_bound_more}
-use Rattle.rc_plan.specs.Evaluation.{stripes_locked}
-use Rattle.rc_plan.specs.declared.statement.Statement.{Statement}
-use Rattle.rc_plan.specs.declared.statement.Statement.TheVariants.{Lock}
-use Rattle.rc_plan.specs.declared.statement.Which.{Which}
-use Rattle.rc_machine.specs.Access.{AreLockedFor}
-use Rattle.rc_machine.specs.Machine.{stripes_held}
-use Rattle.rc_machine.specs.Run.{IsAt}
+use Rattle.rc_machine.proofs.Imports.{take-suc, false≢true, map-append, nat_cmp, In, gather, gather_in, nat_order, physical_stripe, AreOfOneRelation, HeldStripe, MayTake, held_of, goes_on_again, goes_on_same, Mode, cols_of, is_given_lock, first_at, given_lock_falls, given_lock_locks, key_bound_more, stripes_locked, Statement, Lock, Which, AreLockedFor, stripes_held, IsAt}
 use Rattle.rc_machine.proofs.AccessRunLemmas.{one_lock_more}
 use Rattle.rc_machine.proofs.GoLemmas.{at_is, lock_named, lock_refused, locked_told, refused_since, still_taken}
 use Rattle.rc_machine.proofs.StepLemmas.{begins, lock_above, lock_step}

@@ -1,10 +1,5 @@
 use Rattle.std.proofs.Common.{◌≡◌, ◌∷◌, [], None, drop, take}
-use Rattle.rc_spec.specs.declared.spec.Spec.{Spec}
-use Rattle.rc_fragment.specs.Holder.{GoesOn, held_of}
-use Rattle.rc_machine.specs.Access.{AreLockedFor}
-use Rattle.rc_machine.specs.Machine.{AreTakenAsOffered, stripes_held}
-use Rattle.rc_machine.specs.Run.{IsAt}
-use Rattle.rc_machine.specs.Stripes.{AreStripesOf}
+use Rattle.rc_machine.proofs.Imports.{Spec, GoesOn, held_of, AreLockedFor, AreTakenAsOffered, stripes_held, IsAt, AreStripesOf}
 use Rattle.rc_machine.proofs.arguments.lock_arguments.Given as goal
 
 abbrev pub invariant-loop-at : goal.invariant-loop-at

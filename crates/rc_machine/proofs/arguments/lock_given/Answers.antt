@@ -1,18 +1,6 @@
 use Rattle.std.proofs.Common.{◌≡◌, ◌∷◌, [], ℕ, OnOk, ap, inl, refl, subst, sym, take, ◌∙◌}
-use Rattle.std.specs.Ordering.{nat_cmp}
-use Rattle.rc_tuple.specs.ColSetLaws.{rising_range}
-use Rattle.rc_tuple.specs.RisingSet.{In, gather}
-use Rattle.rc_tuple.specs.RisingSetLaws.{gather-rising, nat_order}
-use Rattle.rc_tuple.specs.Tuple.{Pairs, cols_of}
-use Rattle.rc_spec.specs.Placement.{class_at}
-use Rattle.rc_spec.specs.Stripes.{band_start, physical_stripe}
-use Rattle.rc_spec.specs.declared.spec.Spec.{Spec}
-use Rattle.rc_plan.specs.Evaluation.{stripes_locked}
-use Rattle.rc_plan.specs.PlanRules.{IsKeyBound}
-use Rattle.rc_plan.specs.StripeLocks.{band}
-use Rattle.rc_plan.specs.declared.statement.Which.{Which}
+use Rattle.rc_machine.proofs.Imports.{nat_cmp, rising_range, In, gather, gather-rising, nat_order, Pairs, cols_of, class_at, band_start, physical_stripe, Spec, stripes_locked, IsKeyBound, band, Which, HasLocked, HasRefusedOne}
 use Rattle.rc_plan.specs.declared.statement.Which.TheVariants as which
-use Rattle.rc_machine.specs.Locks.{HasLocked, HasRefusedOne}
 use Rattle.rc_machine.proofs.arguments.lock_given.Goals as goal
 
 -- what is taken: the tuple's stripe

@@ -1,11 +1,5 @@
 use Rattle.std.proofs.Common.{◌≡◌, ◌<◌, ◌&&◌, ◌||◌, ◌∷◌, [], Bool, false, get_or, length, not, sym, subst, ap, take, ◌∙◌, arith}
-use Rattle.std.specs.List.{list_any}
-use Rattle.std.proofs.lemmas.List.{take_more}
-use Rattle.std.proofs.lemmas.List.Folds.{list_any-append, list_any_at}
-use Rattle.rc_tuple.specs.Tuple.{Pairs, agree_on}
-use Rattle.rc_spec.specs.InRange.{AreBelow}
-use Rattle.rc_plan.specs.Evaluation.{stays_beside}
-use Rattle.rc_machine.specs.Checks.{is_beside}
+use Rattle.rc_machine.proofs.Imports.{list_any, take_more, list_any-append, list_any_at, Pairs, agree_on, AreBelow, stays_beside, is_beside}
 use Rattle.rc_machine.proofs.CheckLemmas.{told_beside}
 use Rattle.rc_machine.proofs.check.differ_on.Goals as goal
 use Rattle.rc_machine.proofs.check.differ_on.Goals.{After-conflicts}

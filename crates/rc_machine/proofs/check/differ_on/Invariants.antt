@@ -1,7 +1,5 @@
 use Rattle.std.proofs.Common.{◌≡◌, ◌&&◌, take, not, false}
-use Rattle.rc_plan.specs.Evaluation.{stays_beside}
-use Rattle.std.specs.List.{list_any}
-use Rattle.rc_tuple.specs.Tuple.{agree_on}
+use Rattle.rc_machine.proofs.Imports.{stays_beside, list_any, agree_on}
 use Rattle.rc_machine.proofs.check.differ_on.Given as goal
 
 abbrev pub invariant-loop-at : goal.invariant-loop-at

@@ -1,8 +1,5 @@
 use Rattle.std.proofs.Common.{◌≡◌, ◌-◌, ◌<◌, ◌≤◌, List, length, get_or, subst, sym, ap, arith}
-use Rattle.rc_tuple.specs.RisingSet.{In}
-use Rattle.rc_tuple.specs.RisingSetLaws.{get_or_in}
-use Rattle.rc_tuple.specs.declared.dep.Dep.{Dep}
-use Rattle.rc_spec.specs.InRange.{AreBelow, IsSetBelow}
+use Rattle.rc_machine.proofs.Imports.{In, get_or_in, Dep, AreBelow, IsSetBelow}
 use Rattle.rc_machine.proofs.check.some_differs.Goals as goal
 
 pub differ_on-requires-clause-columns : goal.differ_on-requires-clause-columns

@@ -1,8 +1,5 @@
 use Rattle.std.proofs.Common.{Some, sym, ap, subst, ◌∙◌}
-use Rattle.std.specs.Ordering.{nat_cmp}
-use Rattle.rc_tuple.specs.RisingSet.{In, gather}
-use Rattle.rc_tuple.specs.RisingSetLaws.{in_gather, nat_order}
-use Rattle.rc_machine.specs.Checks.{told_by}
+use Rattle.rc_machine.proofs.Imports.{nat_cmp, In, gather, in_gather, nat_order, told_by}
 use Rattle.rc_machine.proofs.check.told_by.Goals as goal
 
 pub from_list-requires : goal.from_list-requires

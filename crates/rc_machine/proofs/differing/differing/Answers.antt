@@ -1,8 +1,5 @@
 use Rattle.std.proofs.Common.{◌≡◌, ◌+◌, ◌<◌, ℕ, [], drop, subst, sym, ◌∙◌, get_or, length, ap}
-use Rattle.std.proofs.lemmas.List.{drop_all, length-map}
-use Rattle.rc_tuple.specs.RisingSet.{In}
-use Rattle.rc_tuple.specs.RisingSetLaws.{get_or_in}
-use Rattle.rc_tuple.specs.Tuple.{Pairs, agree_on, cols_of}
+use Rattle.rc_machine.proofs.Imports.{drop_all, length-map, In, get_or_in, Pairs, agree_on, cols_of}
 use Rattle.rc_machine.proofs.DifferLemmas.{is_same_yet, next_differs, next_same, none_left}
 use Rattle.rc_machine.proofs.differing.differing.Goals.{then-pair-others, else-pair-others}
 use Rattle.rc_machine.proofs.differing.differing.Goals as goal

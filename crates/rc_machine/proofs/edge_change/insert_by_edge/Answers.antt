@@ -1,17 +1,5 @@
 use Rattle.std.proofs.Common.{◌≡◌, ◌<◌, ◌∷◌, ◌∙◌, Err, length, None, refl, subst, sym, ap, map, [], List}
-use Rattle.rc_tuple.specs.RisingSet.{In}
-use Rattle.rc_spec.specs.declared.call.Reply.TheVariants.{Inserted, Present}
-use Rattle.rc_spec.specs.declared.items.OpKind.TheVariants.{Insert}
-use Rattle.rc_spec.specs.Placement.{class_of}
-use Rattle.rc_fragment.specs.Fragment.{edge_table}
-use Rattle.rc_fragment.specs.Holder.{AreOfOneRelation, CanRaiseNew, HasRoomFor, held_of, reverted, with_tuple_at}
-use Rattle.rc_fragment.specs.Tuples.{IsFirstKept}
-use Rattle.rc_fragment.specs.declared.shape.EdgeShape.{EdgeShape}
-use Rattle.rc_machine.specs.Apply.{HaveRoom, IsSameButLent}
-use Rattle.rc_machine.specs.Access.{HasAnsweredByPath}
-use Rattle.rc_machine.specs.Machine.{HasReplied, told_answer}
-use Rattle.rc_plan.specs.Compiled.{plan_at}
-use Rattle.rc_machine.specs.declared.stripe.ClassStripe.{ClassStripe}
+use Rattle.rc_machine.proofs.Imports.{In, Inserted, Present, Insert, class_of, edge_table, AreOfOneRelation, CanRaiseNew, HasRoomFor, held_of, reverted, with_tuple_at, IsFirstKept, EdgeShape, HaveRoom, IsSameButLent, HasAnsweredByPath, HasReplied, told_answer, plan_at, ClassStripe}
 use Rattle.rc_machine.proofs.EdgeChangeLemmas.{done, insert_replies, present_replies, unanswered}
 use Rattle.rc_machine.proofs.GoLemmas.{applied_told, told_alike}
 use Rattle.rc_machine.proofs.InsertLemmas.{all_added, first_can, first_columns, first_exclusive, first_held, first_known, first_room, first_used, half_alike, half_lent, half_table, left_can, left_places, not_none, nowhere, somewhere, table, table_known, whole}

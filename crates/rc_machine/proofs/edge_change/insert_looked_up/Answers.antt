@@ -1,12 +1,5 @@
 use Rattle.std.proofs.Common.{◌∙◌, None, refl, subst, sym, [], Option, List, ℕ}
-use Rattle.std.specs.Option.{option_copied}
-use Rattle.rc_spec.specs.declared.call.Reply.TheVariants.{Inserted}
-use Rattle.rc_spec.specs.declared.items.OpKind.TheVariants.{Insert}
-use Rattle.rc_spec.specs.declared.spec.Spec.{Spec}
-use Rattle.rc_fragment.specs.Fragment.{shape_of}
-use Rattle.rc_fragment.specs.Holder.{AreOfOneRelation, held_of}
-use Rattle.rc_machine.specs.Access.{HasAnsweredByPath, IsRowFound}
-use Rattle.rc_machine.specs.Machine.{told_answer}
+use Rattle.rc_machine.proofs.Imports.{option_copied, Inserted, Insert, Spec, shape_of, AreOfOneRelation, held_of, HasAnsweredByPath, IsRowFound, told_answer}
 use Rattle.rc_machine.proofs.EdgeChangeLemmas.{can_insert, done, insert_replies, present_replies, unanswered}
 use Rattle.rc_machine.proofs.EdgeRowLemmas.{nothing_told, values_told}
 use Rattle.rc_machine.proofs.GoLemmas.{applied_told, told_alike}

@@ -1,17 +1,5 @@
 use Rattle.std.proofs.Common.{◌≡◌, ◌∷◌, Err, List, None, Option, Some, ap, drop, filter, map, refl, subst, sym, take, []}
-use Rattle.rc_tuple.specs.RisingSet.{In}
-use Rattle.rc_tuple.specs.Tuple.{Pairs, cols_of, matches}
-use Rattle.rc_spec.specs.CallsLaws.{fits_at_op}
-use Rattle.rc_spec.specs.Decomposition.{bound, edge_at, source_and_key}
-use Rattle.rc_spec.specs.declared.call.Reply.TheVariants.{Absent, Removed}
-use Rattle.rc_spec.specs.declared.items.OpKind.TheVariants.{Remove}
-use Rattle.rc_spec.specs.declared.spec.Spec.{Spec}
-use Rattle.rc_fragment.specs.Fragment.{shape_of}
-use Rattle.rc_fragment.specs.Holder.{AreOfOneRelation, HeldStripe, held_of, reverted}
-use Rattle.rc_plan.specs.Compiled.{plan_at}
-use Rattle.rc_plan.specs.declared.statement.Statement.{Statement}
-use Rattle.rc_machine.specs.Access.{IsTupleFound}
-use Rattle.rc_machine.specs.Machine.{HasRunCall, told_answer}
+use Rattle.rc_machine.proofs.Imports.{In, Pairs, cols_of, matches, fits_at_op, bound, edge_at, source_and_key, Absent, Removed, Remove, Spec, shape_of, AreOfOneRelation, HeldStripe, held_of, reverted, plan_at, Statement, IsTupleFound, HasRunCall, told_answer}
 use Rattle.rc_machine.proofs.AccessRunLemmas.{lent_over}
 use Rattle.rc_machine.proofs.ArriveLemmas.{ComesToApply}
 use Rattle.rc_machine.proofs.EdgeChangeLemmas.{absent_replies, done, if_stopped, only_match, remove_given, remove_whole, run_in_place, run_since, run_stopped, stripes_of_removed, unanswered}

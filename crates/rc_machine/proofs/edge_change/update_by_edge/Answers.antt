@@ -1,15 +1,5 @@
 use Rattle.std.proofs.Common.{◌≡◌, Option, Some, refl, subst, sym, []}
-use Rattle.rc_tuple.specs.RisingSet.{In}
-use Rattle.rc_tuple.specs.Tuple.{Pairs, cols_of}
-use Rattle.rc_spec.specs.CallsLaws.{fits_at_op}
-use Rattle.rc_spec.specs.Decomposition.{bound, edge_at, source_and_key}
-use Rattle.rc_spec.specs.declared.call.Reply.TheVariants.{Updated}
-use Rattle.rc_spec.specs.declared.items.OpKind.TheVariants.{Update}
-use Rattle.rc_spec.specs.declared.spec.Spec.{Spec}
-use Rattle.rc_fragment.specs.Fragment.{shape_of}
-use Rattle.rc_fragment.specs.Holder.{AreOfOneRelation, held_of}
-use Rattle.rc_machine.specs.Access.{HasAnsweredByPath, IsTupleFound}
-use Rattle.rc_machine.specs.Machine.{told_answer}
+use Rattle.rc_machine.proofs.Imports.{In, Pairs, cols_of, fits_at_op, bound, edge_at, source_and_key, Updated, Update, Spec, shape_of, AreOfOneRelation, held_of, HasAnsweredByPath, IsTupleFound, told_answer}
 use Rattle.rc_machine.proofs.AccessRunLemmas.{lent_over}
 use Rattle.rc_machine.proofs.EdgeChangeLemmas.{can_update, done, unanswered, unfound_replies, update_given, update_replies}
 use Rattle.rc_machine.proofs.GoLemmas.{applied_told, told_alike}

@@ -1,19 +1,5 @@
 use Rattle.std.proofs.Common.{◌≡◌, sym, ap, subst, ◌∙◌}
-use Rattle.rc_tuple.specs.RisingSet.{In}
-use Rattle.rc_tuple.specs.Tuple.{cols_of}
-use Rattle.rc_spec.specs.declared.items.Op.{Op}
-use Rattle.rc_spec.specs.declared.items.OpKind.{OpKind}
-use Rattle.rc_spec.specs.declared.items.OpKind.TheVariants.{Query}
-use Rattle.rc_spec.specs.declared.spec.Spec.{Spec}
-use Rattle.rc_spec.specs.Decomposition.{bound, edge_at}
-use Rattle.rc_spec.specs.Fragments.{EdgeRow}
-use Rattle.rc_spec.specs.Placement.{op_at}
-use Rattle.rc_spec.specs.Plain.{plain}
-use Rattle.rc_fragment.specs.Fragment.{shape_of}
-use Rattle.rc_fragment.specs.Holder.{held_of}
-use Rattle.rc_plan.specs.Access.{AsksFor, extra_of}
-use Rattle.rc_plan.specs.Compiled.{plan_at}
-use Rattle.rc_machine.specs.Access.{HasListed, HasLookedUp, leaving}
+use Rattle.rc_machine.proofs.Imports.{In, cols_of, Op, OpKind, Query, Spec, bound, edge_at, EdgeRow, op_at, plain, shape_of, held_of, AsksFor, extra_of, plan_at, HasListed, HasLookedUp, leaving}
 use Rattle.rc_machine.proofs.AccessRunLemmas.{lent_over, lent_rows, row_served, rows_served}
 use Rattle.rc_machine.proofs.ReadLemmas.{is_held}
 use Rattle.rc_machine.proofs.edge_query.answer_by_edge.Given.{Over}

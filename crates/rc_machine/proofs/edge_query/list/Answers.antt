@@ -1,19 +1,8 @@
 use Rattle.std.proofs.Common.{◌≡◌, ◌<◌, ◌*◌, ◌/◌, ◌++◌, [], ℕ, List, length, map, subst, sym, ap, ◌∙◌, arith}
-use Rattle.std.proofs.Math.Nat.{mul-div_cancel}
-use Rattle.std.proofs.lemmas.List.{length-map}
-use Rattle.std.specs.List.{flat_map}
-use Rattle.rc_tuple.specs.Tuple.{Pairs, pick, value}
-use Rattle.rc_spec.specs.declared.call.Reply.TheVariants.{Many, Rows}
-use Rattle.rc_spec.specs.Decomposition.{bound, edge_at}
-use Rattle.rc_spec.specs.RowLists.{rows_of_width}
-use Rattle.rc_spec.specs.RowListsLaws.{length-flat_map_width, rows_of_width-flat_map}
-use Rattle.rc_fragment.specs.Fragment.{HasScanned, HasShape, IsScan, key_and_extra, shape_of}
-use Rattle.rc_fragment.specs.RowValues.{extra_columns, values_at}
-use Rattle.rc_fragment.specs.declared.shape.EdgeShape.{EdgeShape}
+use Rattle.rc_machine.proofs.Imports.{mul-div_cancel, length-map, flat_map, Pairs, pick, value, Many, Rows, bound, edge_at, rows_of_width, length-flat_map_width, rows_of_width-flat_map, HasScanned, HasShape, IsScan, key_and_extra, shape_of, extra_columns, values_at, EdgeShape, number_has_shape}
 use Rattle.rc_machine.proofs.AccessLemmas.{flat_map_alike, picked_parts, some_length}
 use Rattle.rc_machine.proofs.EmitLemmas.{few_rows, many_rows}
 use Rattle.rc_machine.proofs.ReadLemmas.{read_known}
-use Rattle.rc_fragment.specs.FragmentLaws.{number_has_shape}
 use Rattle.rc_machine.proofs.edge_query.list.Goals as goal
 use Rattle.rc_machine.proofs.edge_query.list.Goals.{After-as_slice}
 

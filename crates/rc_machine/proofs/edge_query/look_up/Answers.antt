@@ -1,13 +1,5 @@
 use Rattle.std.proofs.Common.{◌≡◌, ◌++◌, ◌∷◌, [], List, Some, ℕ, length, subst, sym, ap, ◌∙◌}
-use Rattle.std.specs.List.{zip}
-use Rattle.std.specs.Option.{option_copied}
-use Rattle.rc_tuple.specs.Tuple.{pick}
-use Rattle.rc_spec.specs.declared.call.Reply.TheVariants.{Rows}
-use Rattle.rc_fragment.specs.Fragment.{shape_of}
-use Rattle.rc_fragment.specs.FragmentLaws.{parted_edge}
-use Rattle.rc_fragment.specs.RowValues.{extra_columns}
-use Rattle.rc_machine.specs.Access.{IsRowFound}
-use Rattle.rc_fragment.specs.RowValuesLaws.{extra_set}
+use Rattle.rc_machine.proofs.Imports.{zip, option_copied, pick, Rows, shape_of, parted_edge, extra_columns, IsRowFound, extra_set}
 use Rattle.rc_machine.proofs.PickLemmas.{pick_zip}
 use Rattle.rc_machine.proofs.ReadLemmas.{on_ok}
 use Rattle.rc_machine.proofs.SeekLemmas.{length_extra}

@@ -1,8 +1,5 @@
 use Rattle.std.proofs.Common.{◌∙◌, ap, subst, sym}
-use Rattle.std.specs.Option.{option_copied}
-use Rattle.rc_fragment.specs.Fragment.{HasShape, IsLookedUp, shape_of}
-use Rattle.rc_fragment.specs.RowValues.{values_at}
-use Rattle.rc_fragment.specs.FragmentLaws.{number_has_shape}
+use Rattle.rc_machine.proofs.Imports.{option_copied, HasShape, IsLookedUp, shape_of, values_at, number_has_shape}
 use Rattle.rc_machine.proofs.ReadLemmas.{read_known}
 use Rattle.rc_machine.proofs.edge_row.find_row.Goals as goal
 

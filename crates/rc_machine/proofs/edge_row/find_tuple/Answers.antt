@@ -1,14 +1,5 @@
 use Rattle.std.proofs.Common.{◌≡◌, ◌∙◌, List, ℕ, Some, ap, length, subst, sym}
-use Rattle.std.specs.List.{zip}
-use Rattle.std.specs.Option.{option_copied}
-use Rattle.rc_tuple.specs.ColSet.{union}
-use Rattle.rc_tuple.specs.ColSetLaws.{in_minus}
-use Rattle.rc_tuple.specs.RisingSet.{In}
-use Rattle.rc_tuple.specs.Tuple.{cols_of, merge, project}
-use Rattle.rc_spec.specs.Decomposition.{bound, edge_at, source_and_key}
-use Rattle.rc_fragment.specs.Fragment.{IsThereWith, shape_of}
-use Rattle.rc_fragment.specs.RowValues.{values_at}
-use Rattle.rc_machine.specs.Access.{IsRowFound}
+use Rattle.rc_machine.proofs.Imports.{zip, option_copied, union, in_minus, In, cols_of, merge, project, bound, edge_at, source_and_key, IsThereWith, shape_of, values_at, IsRowFound}
 use Rattle.rc_machine.proofs.EdgeRowLemmas.{completed_is}
 use Rattle.rc_machine.proofs.SeekLemmas.{length_extra}
 use Rattle.rc_machine.proofs.edge_row.find_tuple.Goals.{After-union-kept, In-Some}

@@ -1,6 +1,5 @@
 use Rattle.std.proofs.Common.{◌≡◌, ◌++◌, take}
-use Rattle.std.specs.List.{zip}
-use Rattle.rc_tuple.specs.Tuple.{pick}
+use Rattle.rc_machine.proofs.Imports.{zip, pick}
 use Rattle.rc_machine.proofs.edge_row.push_picked.Given as goal
 
 abbrev pub invariant-loop-col : goal.invariant-loop-col

@@ -1,8 +1,5 @@
 use Rattle.std.proofs.Common.{◌≡◌, ℕ, Option, get_or, true, sym, ap, ◌∙◌, arith}
-use Rattle.std.specs.Prelude.{unwrap_or}
-use Rattle.rc_tuple.specs.ColSet.{has}
-use Rattle.rc_tuple.specs.ColSetLaws.{rank_within}
-use Rattle.rc_tuple.specs.RisingSetLaws.{in_has}
+use Rattle.rc_machine.proofs.Imports.{unwrap_or, has, rank_within, in_has}
 use Rattle.rc_machine.proofs.EdgeRowLemmas.{value_extra, value_other}
 use Rattle.rc_machine.proofs.edge_row.value_at.Goals as goal
 

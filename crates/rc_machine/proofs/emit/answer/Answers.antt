@@ -1,12 +1,5 @@
 use Rattle.std.proofs.Common.{◌≡◌, length, map, sym, ap, ◌∙◌, arith}
-use Rattle.std.proofs.lemmas.List.{length-map}
-use Rattle.rc_tuple.specs.RisingSet.{gather}
-use Rattle.rc_tuple.specs.RisingSetLaws.{gather-rising, number_lists_order}
-use Rattle.rc_tuple.specs.Tuple.{pick}
-use Rattle.rc_spec.specs.declared.call.Reply.TheVariants.{Rows, Many}
-use Rattle.rc_spec.specs.Plain.{at_most, row_cmp}
-use Rattle.rc_bindings.specs.RegistersLaws.{if_ok}
-use Rattle.rc_plan.specs.Evaluation.{answer}
+use Rattle.rc_machine.proofs.Imports.{length-map, gather, gather-rising, number_lists_order, pick, Rows, Many, at_most, row_cmp, if_ok, answer}
 use Rattle.rc_machine.proofs.EmitLemmas.{few_rows, many_rows, none_outside}
 use Rattle.rc_machine.proofs.emit.answer.Goals as goal
 use Rattle.rc_machine.proofs.emit.answer.Goals.{After-len-count}

@@ -1,9 +1,5 @@
 use Rattle.std.proofs.Common.{◌≡◌, ◌*◌, List, ℕ, length, sym, ap, ◌∙◌, arith}
-use Rattle.std.specs.List.{flat_map}
-use Rattle.std.proofs.lemmas.List.{length-map, take_all}
-use Rattle.rc_tuple.specs.Tuple.{Pairs, pick}
-use Rattle.rc_spec.specs.RowLists.{rows_of_width}
-use Rattle.rc_spec.specs.RowListsLaws.{length-flat_map_width, rows_of_width-flat_map}
+use Rattle.rc_machine.proofs.Imports.{flat_map, length-map, take_all, Pairs, pick, rows_of_width, length-flat_map_width, rows_of_width-flat_map}
 use Rattle.rc_machine.proofs.emit.rows.Goals as goal
 use Rattle.rc_machine.proofs.emit.rows.Goals.{After-len-2}
 

@@ -1,6 +1,5 @@
 use Rattle.std.proofs.Common.{◌≡◌, take}
-use Rattle.std.specs.List.{flat_map}
-use Rattle.rc_tuple.specs.Tuple.{pick}
+use Rattle.rc_machine.proofs.Imports.{flat_map, pick}
 use Rattle.rc_machine.proofs.emit.rows.Given as goal
 
 abbrev pub invariant-loop-at : goal.invariant-loop-at

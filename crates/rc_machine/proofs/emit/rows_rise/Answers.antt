@@ -1,14 +1,5 @@
 use Rattle.std.proofs.Common.{◌≡◌, ◌+◌, ◌-◌, ◌<◌, ◌≤◌, ℕ, [], inl, inr, get_or, is_lt, length, refl, true, map, sym, ap, ◌∙◌, arith}
-use Rattle.std.proofs.Math.Nat.{eq-or-lt_of_le}
-use Rattle.std.proofs.Math.ListN.{get_or-map}
-use Rattle.std.proofs.lemmas.List.{length-map}
-use Rattle.std.proofs.lemmas.Bool.{false≢true}
-use Rattle.std.specs.declared.cmp.Ordering.{Ordering}
-use Rattle.std.specs.declared.cmp.Ordering.TheVariants.{Less, Equal, Greater}
-use Rattle.rc_tuple.specs.RisingSet.{IsRising}
-use Rattle.rc_tuple.specs.RisingSetLaws.{number_lists_order}
-use Rattle.rc_tuple.specs.Tuple.{pick}
-use Rattle.rc_spec.specs.Plain.{row_cmp}
+use Rattle.rc_machine.proofs.Imports.{eq-or-lt_of_le, get_or-map, length-map, false≢true, Ordering, Less, Equal, Greater, IsRising, number_lists_order, pick, row_cmp}
 use Rattle.rc_machine.proofs.EmitLemmas.{rising_by_steps, steps_rise}
 use Rattle.rc_machine.proofs.emit.rows_rise.Goals.{After-loop-at}
 use Rattle.rc_machine.proofs.emit.rows_rise.Goals as goal

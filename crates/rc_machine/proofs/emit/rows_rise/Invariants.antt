@@ -1,7 +1,5 @@
 use Rattle.std.proofs.Common.{◌≡◌, ℕ, ◌+◌, ◌<◌, [], get_or}
-use Rattle.std.specs.declared.cmp.Ordering.TheVariants.{Less}
-use Rattle.rc_tuple.specs.Tuple.{pick}
-use Rattle.rc_spec.specs.Plain.{row_cmp}
+use Rattle.rc_machine.proofs.Imports.{Less, pick, row_cmp}
 use Rattle.rc_machine.proofs.emit.rows_rise.Given as goal
 
 abbrev pub invariant-loop-at : goal.invariant-loop-at

@@ -1,24 +1,5 @@
 use Rattle.std.proofs.Common.{◌≡◌, ◌+◌, ◌≤◌, ◌∷◌, ◌++◌, [], ℕ, List, Err, drop, get_or, length, take, refl, sym, ap, subst, ◌∙◌, inl}
-use Rattle.std.specs.Ordering.{nat_cmp}
-use Rattle.rc_tuple.specs.ColSet.{Within}
-use Rattle.rc_tuple.specs.RisingSet.{In, gather}
-use Rattle.rc_tuple.specs.Tuple.{cols_of}
-use Rattle.rc_spec.specs.Calls.{all_columns}
-use Rattle.rc_spec.specs.Decomposition.{bound, edge_at}
-use Rattle.rc_spec.specs.Placement.{class_at}
-use Rattle.rc_spec.specs.Stripes.{physical_stripe}
-use Rattle.rc_spec.specs.declared.lock.Mode.{Mode}
-use Rattle.rc_fragment.specs.Holder.{AreOfOneRelation, HeldStripe, Holding, MayTake, held_of, offered_at}
-use Rattle.rc_fragment.specs.HoldingLaws.{goes_on_again, goes_on_same}
-use Rattle.rc_plan.specs.Access.{AreLate, IsLate}
-use Rattle.rc_plan.specs.AccessLaws.{late_read}
-use Rattle.rc_plan.specs.Compiled.{plan_at}
-use Rattle.rc_plan.specs.Evaluation.{stripes_locked}
-use Rattle.rc_plan.specs.declared.statement.Statement.{Statement}
-use Rattle.rc_plan.specs.declared.statement.Statement.TheVariants.{Lock, Read}
-use Rattle.rc_plan.specs.declared.statement.Which.{Which}
-use Rattle.rc_machine.specs.Access.{IsBehind}
-use Rattle.rc_machine.specs.Locks.{HasLocked, HasRefusedOne}
+use Rattle.rc_machine.proofs.Imports.{nat_cmp, Within, In, gather, cols_of, all_columns, bound, edge_at, class_at, physical_stripe, Mode, AreOfOneRelation, HeldStripe, Holding, MayTake, held_of, offered_at, goes_on_again, goes_on_same, AreLate, IsLate, late_read, plan_at, stripes_locked, Statement, Lock, Read, Which, IsBehind, HasLocked, HasRefusedOne}
 use Rattle.rc_machine.proofs.EdgeChangeLemmas.{are_late, late_within, remove_whole}
 use Rattle.rc_machine.proofs.GoLemmas.{lock_named, lock_refused, locked_told, refused_since, still_taken}
 use Rattle.rc_machine.proofs.LateLemmas.{behind_lock, behind_read, came, comes_next, found_striped, is_late, lock_bindings, stands}

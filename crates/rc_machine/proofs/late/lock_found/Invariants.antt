@@ -1,10 +1,5 @@
 use Rattle.std.proofs.Common.{◌≡◌, drop, take}
-use Rattle.rc_spec.specs.declared.spec.Spec.{Spec}
-use Rattle.rc_fragment.specs.Holder.{GoesOn, held_of}
-use Rattle.rc_plan.specs.Compiled.{plan_at}
-use Rattle.rc_machine.specs.Access.{IsBehind, IsOnlyMatch}
-use Rattle.rc_machine.specs.Machine.{AreTakenAsOffered}
-use Rattle.rc_machine.specs.Stripes.{AreStripesOf}
+use Rattle.rc_machine.proofs.Imports.{Spec, GoesOn, held_of, plan_at, IsBehind, IsOnlyMatch, AreTakenAsOffered, AreStripesOf}
 use Rattle.rc_machine.proofs.late.lock_found.Given as goal
 
 abbrev pub invariant-loop-at : goal.invariant-loop-at

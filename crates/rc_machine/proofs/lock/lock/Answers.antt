@@ -1,9 +1,5 @@
 use Rattle.std.proofs.Common.{◌≡◌, ◌<◌, Err, subst, sym, ap, ◌∙◌}
-use Rattle.std.specs.Ordering.{nat_cmp}
-use Rattle.rc_tuple.specs.RisingSet.{In, IsRising, gather}
-use Rattle.rc_tuple.specs.RisingSetLaws.{in_gather, rising_gather, nat_order}
-use Rattle.rc_plan.specs.Evaluation.{stripes_locked}
-use Rattle.rc_machine.specs.Locks.{HasRefusedOne}
+use Rattle.rc_machine.proofs.Imports.{nat_cmp, In, IsRising, gather, in_gather, rising_gather, nat_order, stripes_locked, HasRefusedOne}
 use Rattle.rc_machine.proofs.LentLemmas.{counted_same}
 use Rattle.rc_machine.proofs.LockLemmas.{counted_stopped, held_stop, locked_known}
 use Rattle.rc_machine.proofs.lock.lock.Given.{Over}

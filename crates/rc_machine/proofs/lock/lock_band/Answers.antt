@@ -1,12 +1,6 @@
 use Rattle.std.proofs.Common.{◌≡◌, ◌<◌, ◌++◌, [], Err, subst, sym, ap, ◌∙◌}
-use Rattle.std.specs.Ordering.{nat_cmp}
-use Rattle.rc_tuple.specs.ColSetLaws.{rising_range}
-use Rattle.rc_tuple.specs.RisingSet.{In, IsRising}
-use Rattle.rc_spec.specs.Placement.{class_at}
-use Rattle.rc_spec.specs.Stripes.{band_start}
-use Rattle.rc_plan.specs.StripeLocks.{band}
+use Rattle.rc_machine.proofs.Imports.{nat_cmp, rising_range, In, IsRising, class_at, band_start, band, HasRefusedOne}
 use Rattle.rc_plan.specs.declared.statement.Which.TheVariants as which
-use Rattle.rc_machine.specs.Locks.{HasRefusedOne}
 use Rattle.rc_machine.proofs.LentLemmas.{counted_same}
 use Rattle.rc_machine.proofs.LockLemmas.{counted_stopped, held_stop, locked_known}
 use Rattle.rc_machine.proofs.lock.lock_band.Given.{Over}

@@ -1,7 +1,5 @@
 use Rattle.std.proofs.Common.{◌+◌, ◌∷◌, ◌++◌, [], sym, ap, ◌∙◌}
-use Rattle.std.proofs.lemmas.List.{append_assoc}
-use Rattle.std.specs.List.{range_with_len}
-use Rattle.rc_tuple.specs.ColSetLaws.{range_with_len_more}
+use Rattle.rc_machine.proofs.Imports.{append_assoc, range_with_len, range_with_len_more}
 use Rattle.rc_machine.proofs.lock.push_band.Goals as goal
 
 pub loop-place-preserved : goal.loop-place-preserved

@@ -1,8 +1,5 @@
 use Rattle.std.proofs.Common.{eqb, ◌∙◌}
-use Rattle.std.specs.Cmp.{unsigned_ties}
-use Rattle.std.specs.Ordering.{nat_cmp}
-use Rattle.std.proofs.lemmas.List.Filters.{dedup_is}
-use Rattle.rc_tuple.specs.RisingSetLaws.{kept_once, nat_order}
+use Rattle.rc_machine.proofs.Imports.{unsigned_ties, nat_cmp, dedup_is, kept_once, nat_order}
 use Rattle.rc_machine.proofs.lock.sort.Goals as goal
 
 pub returns-then-len-gt1 : goal.returns-then-len-gt1

@@ -1,7 +1,5 @@
 use Rattle.std.proofs.Common.{Err, ◌<◌, ℕ, get_or, length, refl, subst, sym, ap, ◌∙◌}
-use Rattle.rc_tuple.specs.RisingSetLaws.{get_or_in}
-use Rattle.rc_fragment.specs.Holder.{IsAbove, MayTake, held_of}
-use Rattle.rc_fragment.specs.HoldingLaws.{goes_on_again, goes_on_same}
+use Rattle.rc_machine.proofs.Imports.{get_or_in, IsAbove, MayTake, held_of, goes_on_again, goes_on_same}
 use Rattle.rc_machine.proofs.LockLemmas.{counted_on, counted_since, locked_more, locked_none, next_above, refused_one}
 use Rattle.rc_machine.proofs.lock.take_all.Given.{Over}
 use Rattle.rc_machine.proofs.lock.take_all.Goals.{In-loop-stripe}

@@ -1,7 +1,5 @@
 use Rattle.std.proofs.Common.{◌≡◌, take}
-use Rattle.rc_spec.specs.declared.spec.Spec.{Spec}
-use Rattle.rc_fragment.specs.Holder.{GoesOn}
-use Rattle.rc_machine.specs.Locks.{HasLocked}
+use Rattle.rc_machine.proofs.Imports.{Spec, GoesOn, HasLocked}
 use Rattle.rc_machine.proofs.lock.take_all.Given as goal
 
 abbrev pub invariant-loop-stripe : goal.invariant-loop-stripe

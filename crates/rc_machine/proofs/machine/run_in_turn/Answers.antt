@@ -1,18 +1,6 @@
 use Rattle.std.proofs.Common.{◌≡◌, ◌<◌, ◌≤◌, ◌∷◌, ◌++◌, [], List, Err, None, Option, length, refl, sym, ap, subst, ◌∙◌}
-use Rattle.rc_tuple.specs.RisingSet.{In}
-use Rattle.rc_tuple.specs.MergeLaws.{project_all}
-use Rattle.rc_tuple.specs.Tuple.{Pairs, project}
-use Rattle.rc_tuple.specs.TupleLaws.{rising_pairs}
-use Rattle.rc_bindings.specs.Bindings.{BindingList}
+use Rattle.rc_machine.proofs.Imports.{In, project_all, Pairs, project, rising_pairs, BindingList, Spec, HeldStripe, MayTake, held_of, goes_on_same, Statement, IsPlanOf, plan_at, IsNamedBy, IsRefused, told_answer, IsAt}
 use Rattle.rc_machine.proofs.StripeLemmas.{args_below}
-use Rattle.rc_spec.specs.declared.spec.Spec.{Spec}
-use Rattle.rc_fragment.specs.Holder.{HeldStripe, MayTake, held_of}
-use Rattle.rc_fragment.specs.HoldingLaws.{goes_on_same}
-use Rattle.rc_plan.specs.declared.statement.Statement.{Statement}
-use Rattle.rc_plan.specs.Compiled.{IsPlanOf, plan_at}
-use Rattle.rc_plan.specs.NamedStripes.{IsNamedBy}
-use Rattle.rc_machine.specs.Machine.{IsRefused, told_answer}
-use Rattle.rc_machine.specs.Run.{IsAt}
 use Rattle.rc_machine.proofs.EdgeChangeLemmas.{run_since, run_stopped}
 use Rattle.rc_machine.proofs.StepLemmas.{begins}
 use Rattle.rc_machine.proofs.machine.run_in_turn.Given.{Over}

@@ -1,9 +1,5 @@
 use Rattle.std.proofs.Common.{◌≡◌, drop}
-use Rattle.rc_spec.specs.declared.spec.Spec.{Spec}
-use Rattle.rc_fragment.specs.Holder.{GoesOn, held_of}
-use Rattle.rc_machine.specs.Machine.{AreTakenAsOffered}
-use Rattle.rc_machine.specs.Run.{IsAt}
-use Rattle.rc_machine.specs.Workspace.{AreWide}
+use Rattle.rc_machine.proofs.Imports.{Spec, GoesOn, held_of, AreTakenAsOffered, IsAt, AreWide}
 use Rattle.rc_machine.proofs.machine.run_in_turn.Given as goal
 
 abbrev pub invariant-loop-at : goal.invariant-loop-at

@@ -1,6 +1,5 @@
 use Rattle.std.proofs.Common.{◌≡◌, ◌∙◌, ap, subst, Err, Result}
-use Rattle.rc_machine.specs.Machine.{HasRunCall, told_answer}
-use Rattle.rc_machine.specs.declared.stop.Stop.{Stop}
+use Rattle.rc_machine.proofs.Imports.{HasRunCall, told_answer, Stop}
 use Rattle.rc_machine.proofs.BackLemmas.{back_as_taken, run_back}
 use Rattle.rc_machine.proofs.machine.run_plan.Given.{Over}
 use Rattle.rc_machine.proofs.machine.run_plan.Goals.{After-run_statements}

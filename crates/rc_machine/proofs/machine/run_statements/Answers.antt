@@ -1,15 +1,5 @@
 use Rattle.std.proofs.Common.{◌≡◌, ◌<◌, ◌∷◌, length, [], None, Err, true, sym, ap, subst, ◌∙◌}
-use Rattle.std.specs.List.{list_all}
-use Rattle.rc_tuple.specs.RisingSet.{In}
-use Rattle.rc_spec.specs.Placement.{class_at, class_of, op_at}
-use Rattle.rc_spec.specs.Stripes.{physical_stripe}
-use Rattle.rc_fragment.specs.Holder.{MayTake, held_of}
-use Rattle.rc_plan.specs.Access.{IsAccessPath, is_given_lock}
-use Rattle.rc_plan.specs.Compiled.{IsPlanOf, plan_at}
-use Rattle.rc_plan.specs.declared.statement.Statement.{Statement}
-use Rattle.std.specs.Prelude.{List, drop, take}
-use Rattle.rc_machine.specs.Machine.{IsRefused, stripes_held, told_answer}
-use Rattle.rc_machine.specs.Run.{IsAt}
+use Rattle.rc_machine.proofs.Imports.{list_all, In, class_at, class_of, op_at, physical_stripe, MayTake, held_of, IsAccessPath, is_given_lock, IsPlanOf, plan_at, Statement, List, drop, take, IsRefused, stripes_held, told_answer, IsAt}
 use Rattle.rc_machine.proofs.AccessRunLemmas.{args_are, args_striped}
 use Rattle.rc_machine.proofs.EdgeChangeLemmas.{run_since, run_stopped}
 use Rattle.rc_machine.proofs.ReadLemmas.{class_known}

@@ -1,12 +1,5 @@
 use Rattle.std.proofs.Common.{◌≡◌, ◌∙◌, ap, drop, refl, sym}
-use Rattle.rc_spec.specs.Placement.{op_at}
-use Rattle.rc_spec.specs.declared.items.Op.{Op}
-use Rattle.rc_spec.specs.declared.items.OpKind.TheVariants.{Query, Remove}
-use Rattle.rc_spec.specs.declared.spec.Spec.{Spec}
-use Rattle.rc_fragment.specs.Holder.{held_of}
-use Rattle.rc_plan.specs.Compiled.{plan_at}
-use Rattle.rc_machine.specs.Machine.{HasAnswered}
-use Rattle.rc_machine.specs.ReplyLaws.{told_answer_ok}
+use Rattle.rc_machine.proofs.Imports.{op_at, Op, Query, Remove, Spec, held_of, plan_at, HasAnswered, told_answer_ok}
 use Rattle.rc_machine.proofs.AccessRunLemmas.{path_replies}
 use Rattle.rc_machine.proofs.EdgeChangeLemmas.{others, run_in_place}
 use Rattle.rc_machine.proofs.path_answer.answer_by_path.Goals as goal

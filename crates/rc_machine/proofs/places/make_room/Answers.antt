@@ -1,9 +1,5 @@
 use Rattle.std.proofs.Common.{◌≡◌, List, get_or, sym, subst, ◌∙◌}
-use Rattle.std.proofs.lemmas.List.{get_or_default}
-use Rattle.rc_tuple.specs.RisingSetLaws.{get_or_in}
-use Rattle.rc_fragment.specs.Fragment.{edge_table}
-use Rattle.rc_fragment.specs.Holder.{HeldStripe, Holding, IsHeldExclusive}
-use Rattle.rc_machine.specs.declared.stripe.ClassStripe.{ClassStripe}
+use Rattle.rc_machine.proofs.Imports.{get_or_default, get_or_in, edge_table, HeldStripe, Holding, IsHeldExclusive, ClassStripe}
 use Rattle.rc_machine.proofs.ClassLemmas.{used_known}
 use Rattle.rc_machine.proofs.LentLemmas.{lent_again, lent_table}
 use Rattle.rc_machine.proofs.PlaceLemmas.{no_place, room_held, room_lent, room_more}

@@ -1,7 +1,5 @@
 use Rattle.std.proofs.Common.{◌≡◌, take}
-use Rattle.rc_spec.specs.declared.spec.Spec.{Spec}
-use Rattle.rc_fragment.specs.Holder.{held_of}
-use Rattle.rc_machine.specs.Apply.{HaveRoom, IsSameButLent}
+use Rattle.rc_machine.proofs.Imports.{Spec, held_of, HaveRoom, IsSameButLent}
 use Rattle.rc_machine.proofs.places.make_room.Given as goal
 
 abbrev pub invariant-loop-place : goal.invariant-loop-place

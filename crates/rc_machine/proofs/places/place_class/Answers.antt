@@ -1,7 +1,5 @@
 use Rattle.std.proofs.Common.{◌<◌, length, subst, sym}
-use Rattle.rc_tuple.specs.ColSet.{Within}
-use Rattle.rc_tuple.specs.Tuple.{cols_of}
-use Rattle.rc_spec.specs.Placement.{class_at}
+use Rattle.rc_machine.proofs.Imports.{Within, cols_of, class_at}
 use Rattle.rc_machine.proofs.ReadLemmas.{class_known}
 use Rattle.rc_machine.proofs.StripeLemmas.{class_within}
 use Rattle.rc_machine.proofs.places.place_class.Goals as goal

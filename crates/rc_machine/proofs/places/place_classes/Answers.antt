@@ -1,5 +1,4 @@
-use Rattle.std.proofs.Common.{get_or}
-use Rattle.rc_spec.specs.Fragments.{edge_numbers}
+use Rattle.rc_machine.proofs.Imports.{get_or, edge_numbers}
 use Rattle.rc_machine.proofs.ClassLemmas.{class_is_known, class_is_within, class_listed}
 use Rattle.rc_machine.proofs.places.place_classes.Goals as goal
 

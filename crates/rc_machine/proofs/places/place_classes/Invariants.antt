@@ -1,8 +1,5 @@
 use Rattle.std.proofs.Common.{◌≡◌, map, take}
-use Rattle.rc_spec.specs.Fragments.{edge_numbers}
-use Rattle.rc_plan.specs.EdgeClasses.{classes_of}
-use Rattle.rc_machine.specs.Apply.{place_in}
-use Rattle.rc_machine.specs.Stripes.{AreStripesOf}
+use Rattle.rc_machine.proofs.Imports.{edge_numbers, classes_of, place_in, AreStripesOf}
 use Rattle.rc_machine.proofs.places.place_classes.Given as goal
 
 abbrev pub invariant-loop-class : goal.invariant-loop-class

@@ -1,15 +1,5 @@
 use Rattle.std.proofs.Common.{◌<◌, ◌∷◌, get_or, length, map, subst, sym, ap, ◌∙◌, arith}
-use Rattle.std.specs.Global.{Vec}
-use Rattle.std.proofs.lemmas.List.{take_all}
-use Rattle.rc_tuple.specs.ColSet.{Within}
-use Rattle.rc_tuple.specs.Tuple.{cols_of}
-use Rattle.rc_spec.specs.Fragments.{edge_numbers}
-use Rattle.rc_spec.specs.Placement.{class_at}
-use Rattle.rc_plan.specs.EdgeClassLaws.{classes_from, others}
-use Rattle.rc_plan.specs.EdgeClasses.{classes_of}
-use Rattle.rc_machine.specs.Apply.{place_in}
-use Rattle.rc_machine.specs.Stripes.{AreStripesOf}
-use Rattle.rc_machine.specs.declared.stripe.ClassStripe.{ClassStripe}
+use Rattle.rc_machine.proofs.Imports.{Vec, take_all, Within, cols_of, edge_numbers, class_at, classes_from, others, classes_of, place_in, AreStripesOf, ClassStripe}
 use Rattle.rc_machine.proofs.ClassLemmas.{class_is_known, class_is_within, class_listed, other_more, same_more}
 use Rattle.rc_machine.proofs.ReadLemmas.{class_known}
 use Rattle.rc_machine.proofs.StripeLemmas.{class_within}

@@ -1,12 +1,6 @@
 use Rattle.std.proofs.Common.{◌≡◌, ◌==◌, true, false, filter, length, map, not, sym, ap, ◌∙◌, arith}
-use Rattle.std.specs.List.{range_with_len}
-use Rattle.std.proofs.lemmas.List.{append-nil}
-use Rattle.rc_tuple.specs.ColSet.{inter}
-use Rattle.rc_spec.specs.declared.spec.Spec.{Spec}
-use Rattle.rc_machine.specs.Apply.{has_column, place_in}
-use Rattle.rc_plan.specs.EdgeClasses.{classes_of}
+use Rattle.rc_machine.proofs.Imports.{range_with_len, append-nil, inter, Spec, has_column, place_in, classes_of, filter_next}
 use Rattle.rc_machine.proofs.ClassLemmas.{placed_more}
-use Rattle.rc_plan.specs.EdgeClassLaws.{filter_next}
 use Rattle.rc_machine.proofs.places.place_classes_with.Goals.{After-list-all}
 use Rattle.rc_machine.proofs.places.place_classes_with.Goals as goal
 

@@ -1,8 +1,5 @@
 use Rattle.std.proofs.Common.{◌≡◌, filter, map}
-use Rattle.std.specs.List.{range_with_len}
-use Rattle.rc_machine.specs.Apply.{has_column, place_in}
-use Rattle.rc_plan.specs.EdgeClasses.{classes_of}
-use Rattle.rc_machine.specs.Stripes.{AreStripesOf}
+use Rattle.rc_machine.proofs.Imports.{range_with_len, has_column, place_in, classes_of, AreStripesOf}
 use Rattle.rc_machine.proofs.places.place_classes_with.Given as goal
 
 abbrev pub invariant-loop-edge : goal.invariant-loop-edge

@@ -1,15 +1,5 @@
 use Rattle.std.proofs.Common.{◌≡◌, ◌+◌, [], ap, arith, subst, sym, ◌∙◌}
-use Rattle.std.specs.List.{range_with_len}
-use Rattle.rc_tuple.specs.ColSetLaws.{range_with_len_more}
-use Rattle.rc_spec.specs.declared.items.Class.{Class}
-use Rattle.rc_spec.specs.Placement.{class_at, class_of}
-use Rattle.rc_spec.specs.PlacementLaws.{placed_total}
-use Rattle.rc_spec.specs.Stripes.{band_start}
-use Rattle.rc_fragment.specs.Holder.{held_of}
-use Rattle.rc_bindings.specs.Bindings.{with_tuples}
-use Rattle.rc_machine.specs.Read.{HasMergedOn, TakesMerges}
-use Rattle.rc_spec.specs.declared.spec.Spec.{Spec}
-use Rattle.rc_plan.specs.declared.statement.Which.TheVariants.{All}
+use Rattle.rc_machine.proofs.Imports.{range_with_len, range_with_len_more, Class, class_at, class_of, placed_total, band_start, held_of, with_tuples, HasMergedOn, TakesMerges, Spec, All}
 use Rattle.rc_machine.proofs.LockLemmas.{locked_known}
 use Rattle.rc_machine.proofs.ReadLemmas.{class_known, in_band_from, on_more, same_takes}
 use Rattle.rc_machine.proofs.read.push_from_band.Goals as goal

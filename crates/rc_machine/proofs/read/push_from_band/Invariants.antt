@@ -1,7 +1,4 @@
-use Rattle.std.specs.List.{range_with_len}
-use Rattle.rc_fragment.specs.Holder.{held_of}
-use Rattle.rc_machine.specs.Read.{HasMergedOn}
-use Rattle.rc_machine.specs.Workspace.{HasMoreTuples}
+use Rattle.rc_machine.proofs.Imports.{range_with_len, held_of, HasMergedOn, HasMoreTuples}
 use Rattle.rc_machine.proofs.read.push_from_band.Given as goal
 
 abbrev pub invariant-loop-place : goal.invariant-loop-place

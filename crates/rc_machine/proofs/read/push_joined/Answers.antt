@@ -1,14 +1,5 @@
 use Rattle.std.proofs.Common.{◌≡◌, ◌∷◌, [], true, false, subst, sym, ◌∙◌}
-use Rattle.std.proofs.lemmas.Bool.{false≢true}
-use Rattle.rc_tuple.specs.ColSet.{Within}
-use Rattle.rc_tuple.specs.ColSetLaws.{test_from_within, within_from_test}
-use Rattle.rc_tuple.specs.RisingSet.{In}
-use Rattle.rc_tuple.specs.Tuple.{cols_of}
-use Rattle.rc_spec.specs.declared.items.Class.{Class}
-use Rattle.rc_spec.specs.Placement.{class_at, class_of}
-use Rattle.rc_fragment.specs.Holder.{held_of}
-use Rattle.rc_machine.specs.Machine.{stripes_held}
-use Rattle.rc_machine.specs.Read.{HasMergedOn}
+use Rattle.rc_machine.proofs.Imports.{false≢true, Within, test_from_within, within_from_test, In, cols_of, Class, class_at, class_of, held_of, stripes_held, HasMergedOn}
 use Rattle.rc_machine.proofs.ReadLemmas.{band_is_all, keyed_is_all, on_ok}
 use Rattle.rc_machine.proofs.read.push_joined.Given.{Over}
 use Rattle.rc_machine.proofs.read.push_joined.Goals.{After-within}

@@ -1,11 +1,5 @@
 use Rattle.std.proofs.Common.{◌≡◌, ◌++◌, [], length, subst, sym, ap, ◌∙◌}
-use Rattle.rc_spec.specs.Decomposition.{bound, edge_at}
-use Rattle.rc_bindings.specs.Bindings.{BindingList, IsRowWith, TakesRows, given}
-use Rattle.rc_fragment.specs.Fragment.{HasShape, shape_of}
-use Rattle.rc_fragment.specs.RowValues.{extra_columns, values_at}
-use Rattle.rc_plan.specs.declared.statement.ReadMode.TheVariants.{Lookup}
-use Rattle.rc_machine.specs.Read.{HasMerged}
-use Rattle.rc_fragment.specs.FragmentLaws.{number_has_shape}
+use Rattle.rc_machine.proofs.Imports.{bound, edge_at, BindingList, IsRowWith, TakesRows, given, HasShape, shape_of, extra_columns, values_at, Lookup, HasMerged, number_has_shape}
 use Rattle.rc_machine.proofs.ReadLemmas.{looked_up_none, looked_up_some, on_ok, read_known}
 use Rattle.rc_machine.proofs.SeekLemmas.{length_extra, row_looked_up, takes_extra}
 use Rattle.rc_machine.proofs.read.push_looked_up.Goals as goal

@@ -1,16 +1,6 @@
 use Rattle.std.proofs.Common.{◌≡◌, ◌++◌, [], subst, sym, ap, ◌∙◌}
-use Rattle.std.specs.Prelude.{OnOk}
-use Rattle.std.specs.List.{flat_map}
-use Rattle.rc_tuple.specs.RisingSet.{In}
-use Rattle.rc_tuple.specs.Tuple.{Pairs, merges_of}
-use Rattle.rc_bindings.specs.Bindings.{BindingList, IsGivenBy, TakesRows, key_and_extra, with_tuples}
-use Rattle.rc_spec.specs.declared.items.Edge.{Edge}
-use Rattle.rc_spec.specs.Decomposition.{bound, edge_at}
-use Rattle.rc_fragment.specs.Fragment.{HasScanned, HasShape, shape_of}
-use Rattle.rc_fragment.specs.RowValues.{extra_columns, values_at}
-use Rattle.rc_plan.specs.declared.statement.ReadMode.TheVariants.{Scan}
-use Rattle.rc_machine.specs.Read.{HasMerged}
-use Rattle.rc_fragment.specs.FragmentLaws.{number_has_shape}
+use Rattle.rc_machine.proofs.Imports.{OnOk, flat_map, In, Pairs, merges_of, BindingList, IsGivenBy, TakesRows, with_tuples, Edge, bound, edge_at, HasScanned, HasShape, shape_of, extra_columns, values_at, Scan, HasMerged, number_has_shape}
+use Rattle.rc_bindings.specs.Bindings.{key_and_extra}
 use Rattle.rc_machine.proofs.ReadLemmas.{on_ok, read_known, scanned}
 use Rattle.rc_machine.proofs.SeekLemmas.{row_scanned, takes_rows}
 use Rattle.rc_machine.proofs.read.push_scanned.Goals as goal

@@ -1,17 +1,5 @@
 use Rattle.std.proofs.Common.{◌≡◌, ◌<◌, [], arith, ap, get_or, length, refl, subst, sym, ◌∙◌}
-use Rattle.std.proofs.lemmas.List.{take_all}
-use Rattle.rc_tuple.specs.ColSet.{union}
-use Rattle.rc_tuple.specs.RisingSet.{In, gather}
-use Rattle.rc_tuple.specs.RisingSetLaws.{get_or_in}
-use Rattle.rc_tuple.specs.Tuple.{tuple_cmp}
-use Rattle.rc_spec.specs.Decomposition.{bound, edge_at}
-use Rattle.rc_bindings.specs.Bindings.{BindingList, with_tuples}
-use Rattle.rc_fragment.specs.Holder.{held_of}
-use Rattle.rc_spec.specs.Placement.{class_of}
-use Rattle.rc_spec.specs.declared.spec.Spec.{Spec}
-use Rattle.rc_plan.specs.declared.statement.ReadMode.{ReadMode}
-use Rattle.rc_machine.specs.Machine.{stripes_held}
-use Rattle.rc_machine.specs.Read.{AreMerges, HasMergedAll, IsCovered, IsReader, TakesMerges}
+use Rattle.rc_machine.proofs.Imports.{take_all, union, In, gather, get_or_in, tuple_cmp, bound, edge_at, BindingList, with_tuples, held_of, class_of, Spec, ReadMode, stripes_held, AreMerges, HasMergedAll, IsCovered, IsReader, TakesMerges}
 use Rattle.rc_machine.proofs.ReadLemmas.{merges_join, merges_more, merges_none, same_default}
 use Rattle.rc_machine.proofs.StripeLemmas.{joined_below}
 use Rattle.rc_machine.proofs.read.read.Given.{Over}

@@ -1,7 +1,5 @@
 use Rattle.std.proofs.Common.{◌≡◌, take}
-use Rattle.rc_fragment.specs.Holder.{held_of}
-use Rattle.rc_machine.specs.Read.{AreMerges}
-use Rattle.rc_machine.specs.Workspace.{HasMoreTuples}
+use Rattle.rc_machine.proofs.Imports.{held_of, AreMerges, HasMoreTuples}
 use Rattle.rc_machine.proofs.read.read.Given as goal
 
 abbrev pub invariant-loop-at : goal.invariant-loop-at

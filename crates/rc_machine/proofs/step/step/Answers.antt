@@ -1,19 +1,5 @@
 use Rattle.std.proofs.Common.{◌≡◌, ◌<◌, ◌≤◌, if◌then◌else◌, Some, None, ◌+◌, ◌∷◌, ◌++◌, [], Err, drop, filter, get_or, length, subst, sym, ap, ◌∙◌, inl, refl}
-use Rattle.std.proofs.lemmas.Option.{slice_get_within}
-use Rattle.rc_tuple.specs.RisingSet.{In}
-use Rattle.rc_tuple.specs.Tuple.{project}
-use Rattle.rc_bindings.specs.Bindings.{BindingList}
-use Rattle.rc_spec.specs.Acceptance.{IsSealed}
-use Rattle.rc_spec.specs.Placement.{op_at}
-use Rattle.rc_spec.specs.declared.call.Reply.TheVariants.{Conflict}
-use Rattle.rc_spec.specs.declared.items.Op.{Op}
-use Rattle.rc_spec.specs.declared.spec.Spec.{Spec}
-use Rattle.rc_fragment.specs.Holder.{AreOfOneRelation, held_of}
-use Rattle.rc_spec.specs.Ranges.{in_ranges}
-use Rattle.rc_plan.specs.Evaluation.{answer, some_differs}
-use Rattle.rc_plan.specs.declared.statement.Statement.{Statement}
-use Rattle.rc_machine.specs.Applied.{HasApplied}
-use Rattle.rc_machine.specs.Run.{IsAt}
+use Rattle.rc_machine.proofs.Imports.{slice_get_within, In, project, BindingList, IsSealed, op_at, Conflict, Op, Spec, AreOfOneRelation, held_of, in_ranges, answer, some_differs, Statement, HasApplied, IsAt}
 use Rattle.rc_machine.proofs.CheckStepLemmas.{probe_step, probe_within}
 use Rattle.rc_machine.proofs.StripeLemmas.{all_below}
 use Rattle.rc_machine.proofs.GoLemmas.{absent_goes, applied_replies, applied_told, at_is, can_apply, dep_goes, emit_replies, found_goes, lock_named, lock_refused, locked_told, still_taken, told_alike}

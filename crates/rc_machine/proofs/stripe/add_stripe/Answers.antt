@@ -1,5 +1,4 @@
-use Rattle.std.proofs.Common.{subst, sym}
-use Rattle.rc_machine.specs.Stripes.{AreStripesOf}
+use Rattle.rc_machine.proofs.Imports.{subst, sym, AreStripesOf}
 use Rattle.rc_machine.proofs.StripeLemmas.{one_stripe_more}
 use Rattle.rc_machine.proofs.stripe.add_stripe.Goals as goal
 

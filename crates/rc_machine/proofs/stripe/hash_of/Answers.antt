@@ -1,8 +1,5 @@
 use Rattle.std.proofs.Common.{ℕ, filter, sym, ap, subst, ◌∙◌, arith}
-use Rattle.std.proofs.lemmas.List.{take_all}
-use Rattle.rc_tuple.specs.ColSet.{Within, has}
-use Rattle.rc_tuple.specs.Tuple.{IsTuple, Pairs, cols_of}
-use Rattle.rc_spec.specs.Stripes.{hash_of}
+use Rattle.rc_machine.proofs.Imports.{take_all, Within, has, IsTuple, Pairs, cols_of, hash_of}
 use Rattle.rc_machine.proofs.StripeLemmas.{columns_met, hash_with, hash_without}
 use Rattle.rc_machine.proofs.stripe.hash_of.Goals as goal
 use Rattle.rc_machine.proofs.stripe.hash_of.Goals.{then-has, else-has}

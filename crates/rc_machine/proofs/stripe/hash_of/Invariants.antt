@@ -1,7 +1,5 @@
 use Rattle.std.proofs.Common.{◌≡◌, filter, take}
-use Rattle.rc_tuple.specs.ColSet.{has}
-use Rattle.rc_tuple.specs.Tuple.{cols_of}
-use Rattle.rc_spec.specs.Stripes.{hash_of}
+use Rattle.rc_machine.proofs.Imports.{has, cols_of, hash_of}
 use Rattle.rc_machine.proofs.stripe.hash_of.Given as goal
 
 abbrev pub invariant-loop-pair : goal.invariant-loop-pair

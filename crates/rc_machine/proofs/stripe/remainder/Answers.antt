@@ -1,8 +1,5 @@
 use Rattle.std.proofs.Common.{◌≡◌, ◌-◌, ◌%◌, sym, ◌∙◌, subst, arith}
-use Rattle.std.specs.Prelude.{bit_and, count_ones}
-use Rattle.std.proofs.lemmas.Bool.{eqb-true}
-use Rattle.std.proofs.lemmas.Nat.{and_mask}
-use Rattle.rc_tuple.specs.ColSetLaws.{one_bit}
+use Rattle.rc_machine.proofs.Imports.{bit_and, count_ones, eqb-true, and_mask, one_bit}
 use Rattle.rc_machine.proofs.stripe.remainder.Goals as goal
 
 pub returns-then-is_power_of_two : goal.returns-then-is_power_of_two

@@ -1,5 +1,4 @@
-use Rattle.std.proofs.Common.{get_or, refl}
-use Rattle.rc_tuple.specs.RisingSetLaws.{get_or_in}
+use Rattle.rc_machine.proofs.Imports.{get_or, refl, get_or_in}
 use Rattle.rc_machine.proofs.stripe.stripe_in.Goals as goal
 
 pub returns-then-found-class : goal.returns-then-found-class

@@ -1,6 +1,4 @@
-use Rattle.std.proofs.Common.{subst}
-use Rattle.rc_tuple.specs.RisingSet.{In}
-use Rattle.rc_spec.specs.declared.items.Class.{Class}
+use Rattle.rc_machine.proofs.Imports.{subst, In, Class}
 use Rattle.rc_machine.proofs.stripe.tuple_stripe.Goals as goal
 
 pub hash_of-requires : goal.hash_of-requires

@@ -1,6 +1,4 @@
-use Rattle.std.proofs.Common.{rules}
-use Rattle.std.proofs.lemmas.List.Sorted.{answers_always}
-use Rattle.rc_maps.specs.BlockLaws.{IsSearched, searched}
+use Rattle.rc_maps.proofs.Imports.{rules, answers_always, IsSearched, searched}
 use Rattle.rc_maps.proofs.block.place.Goals as goal
 use Rattle.rc_maps.proofs.block.place.Goals.{After-binary_search_by_key}
 

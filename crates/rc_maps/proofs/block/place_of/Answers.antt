@@ -1,9 +1,6 @@
 use Rattle.std.proofs.Common.{◌≡◌, ◌∷◌, [], None, sym, subst}
 use Rattle.std.specs.FinMap as fin
-use Rattle.rc_edges.specs.ListMap.{rows_in}
-use Rattle.rc_edges.specs.ListMapLaws.{got_none}
-use Rattle.rc_maps.specs.Block.{items_of}
-use Rattle.rc_maps.specs.BlockLaws.{none_other}
+use Rattle.rc_maps.proofs.Imports.{rows_in, got_none, items_of, none_other}
 use Rattle.rc_maps.proofs.block.place_of.Goals as goal
 
 pub returns-in_default-clause-none : goal.returns-in_default-clause-none

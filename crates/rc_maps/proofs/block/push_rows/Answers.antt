@@ -1,10 +1,5 @@
 use Rattle.std.proofs.Common.{◌≡◌, ℕ, suc, ◌+◌, ◌*◌, ◌<◌, ◌++◌, length, drop, take, sym, ap, subst, ◌∙◌, arith}
-use Rattle.std.proofs.lemmas.List.{drop_more, length-map, take-map}
-use Rattle.rc_edges.specs.Values.{Values}
-use Rattle.rc_edges.specs.ListMap.{values_in}
-use Rattle.rc_edges.specs.ListMapLaws.{rows_pushed}
-use Rattle.rc_maps.specs.Block.{item_of, items_of}
-use Rattle.rc_maps.specs.BlockLaws.{item_at}
+use Rattle.rc_maps.proofs.Imports.{drop_more, length-map, take-map, Values, values_in, rows_pushed, item_of, items_of, item_at}
 use Rattle.rc_maps.proofs.block.push_rows.Goals as goal
 
 -- n rows are one and the others

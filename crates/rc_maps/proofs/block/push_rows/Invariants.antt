@@ -1,7 +1,5 @@
 use Rattle.std.proofs.Common.{◌≡◌, ◌+◌, ◌*◌, ◌≤◌, ◌++◌, drop, length, take}
-use Rattle.std.specs.Vec.{vec_len, vec_capacity}
-use Rattle.rc_edges.specs.ListMap.{values_in}
-use Rattle.rc_maps.specs.Block.{items_of}
+use Rattle.rc_maps.proofs.Imports.{vec_len, vec_capacity, values_in, items_of}
 use Rattle.rc_maps.proofs.block.push_rows.Given as goal
 
 abbrev pub invariant-loop-row : goal.invariant-loop-row

@@ -1,12 +1,6 @@
 use Rattle.std.proofs.Common.{◌≡◌, ℕ, ◌+◌, ◌∷◌, [], drop, refl, sym, ap, subst, ◌∙◌, arith}
 use Rattle.std.specs.FinMap as fin
-use Rattle.std.proofs.lemmas.List.{drop_all, drop_more}
-use Rattle.rc_edges.specs.Values.{Values}
-use Rattle.rc_edges.specs.EdgeMap.{Counted}
-use Rattle.rc_edges.specs.ListMap.{Items}
-use Rattle.rc_maps.specs.Block.{item_of, items_of}
-use Rattle.rc_maps.specs.OrderedTable.{entries_of}
-use Rattle.rc_maps.specs.WalkLaws.{IsCopied, IsCopied-all, IsCopied-more, IsCopied-none, apart_rising}
+use Rattle.rc_maps.proofs.Imports.{drop_all, drop_more, Values, Counted, Items, item_of, items_of, entries_of, IsCopied, IsCopied-all, IsCopied-more, IsCopied-none, apart_rising}
 use Rattle.rc_maps.proofs.block.table_of.Goals as goal
 
 pub loop-row-init : goal.loop-row-init

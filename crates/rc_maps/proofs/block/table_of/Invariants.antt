@@ -1,7 +1,5 @@
 use Rattle.std.proofs.Common.{◌≡◌, drop, true}
-use Rattle.rc_maps.specs.Block.{items_of}
-use Rattle.rc_maps.specs.OrderedTable.{entries_of, has_one_column}
-use Rattle.rc_maps.specs.WalkLaws.{IsCopied}
+use Rattle.rc_maps.proofs.Imports.{items_of, entries_of, has_one_column, IsCopied}
 use Rattle.rc_maps.proofs.block.table_of.Given as goal
 
 abbrev pub invariant-loop-row : goal.invariant-loop-row

@@ -1,7 +1,6 @@
 use Rattle.std.proofs.Common.{◌++◌, arith, sym, ap, ◌∙◌, subst}
 use Rattle.std.specs.FinMap as fin
-use Rattle.rc_edges.specs.ListMap.{IsKeyed}
-use Rattle.rc_maps.specs.BlocksWalkLaws.{first_items, joined_all, next_block}
+use Rattle.rc_maps.proofs.Imports.{IsKeyed, first_items, joined_all, next_block}
 use Rattle.rc_maps.proofs.blocks.joined.Goals as goal
 
 pub loop-block-init : goal.loop-block-init

@@ -1,7 +1,4 @@
-use Rattle.std.proofs.Common.{rules}
-use Rattle.std.proofs.lemmas.List.Sorted.{IsPartitionPoint-from_clause}
-use Rattle.rc_maps.specs.Blocks.{begins_by}
-use Rattle.rc_maps.specs.BlocksLaws.{begun_before_first, behind_first, own_place, place_within}
+use Rattle.rc_maps.proofs.Imports.{rules, IsPartitionPoint-from_clause, begins_by, begun_before_first, behind_first, own_place, place_within}
 use Rattle.rc_maps.proofs.blocks.place.Goals as goal
 
 pub returns-clause-own : goal.returns-clause-own

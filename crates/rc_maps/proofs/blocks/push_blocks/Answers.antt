@@ -1,8 +1,5 @@
 use Rattle.std.proofs.Common.{take, arith, ◌∙◌}
-use Rattle.rc_edges.specs.ListMap.{values_in}
-use Rattle.rc_maps.specs.Blocks.{items_in}
-use Rattle.rc_maps.specs.BlocksWalkLaws.{pushed_all, pushed_next}
-use Rattle.rc_maps.specs.PushLaws.{kept_before, on_err}
+use Rattle.rc_maps.proofs.Imports.{values_in, items_in, pushed_all, pushed_next, kept_before, on_err}
 use Rattle.rc_maps.proofs.blocks.push_blocks.Goals as goal
 
 pub loop-block-preserved : goal.loop-block-preserved

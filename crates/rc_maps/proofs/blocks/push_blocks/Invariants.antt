@@ -1,6 +1,5 @@
 use Rattle.std.proofs.Common.{◌≡◌, ◌++◌, take}
-use Rattle.rc_edges.specs.ListMap.{values_in}
-use Rattle.rc_maps.specs.Blocks.{items_in}
+use Rattle.rc_maps.proofs.Imports.{values_in, items_in}
 use Rattle.rc_maps.proofs.blocks.push_blocks.Given as goal
 
 abbrev pub invariant-loop-block : goal.invariant-loop-block

@@ -1,7 +1,6 @@
 use Rattle.std.proofs.Common.{◌≡◌, ◌^◌, ◌<◌, ◌/◌, length, sym, ap, subst, ◌∙◌}
-use Rattle.std.specs.Prelude.{slice_set}
+use Rattle.rc_maps.proofs.Imports.{slice_set, AreHalved, below_most, split_in}
 use Rattle.std.specs.FinMap as fin
-use Rattle.rc_maps.specs.BlocksLaws.{AreHalved, below_most, split_in}
 use Rattle.rc_maps.proofs.blocks.split.Goals as goal
 use Rattle.rc_maps.proofs.blocks.split.Goals.{After-index_mut}
 

@@ -1,12 +1,6 @@
 use Rattle.std.proofs.Common.{rules, ◌≡◌, ◌<◌, ◌^◌, [], ◌∷◌, Some, None, IfOk, refl, sym, ap, subst, ◌∙◌}
 use Rattle.std.specs.FinMap as fin
-use Rattle.std.specs.Option.{option_and_then}
-use Rattle.std.specs.HashMap.Entry.{entry_value}
-use Rattle.std.proofs.lemmas.Result.{on_err_weaker, on_ok_weaker}
-use Rattle.rc_edges.specs.EdgeMap.{HasExtra, count_of, present}
-use Rattle.rc_maps.specs.Keyed.{entries_one}
-use Rattle.rc_maps.specs.TableLaws.{raised, stays}
-use Rattle.rc_maps.specs.HashLaws.{changed_one, found_one}
+use Rattle.rc_maps.proofs.Imports.{option_and_then, entry_value, on_err_weaker, on_ok_weaker, HasExtra, count_of, present, entries_one, raised, stays, changed_one, found_one}
 use Rattle.rc_maps.proofs.hash_table.raise_one.Goals as goal
 use Rattle.rc_maps.proofs.hash_table.raise_one.Goals.{After-into_mut, In-Vacant}
 

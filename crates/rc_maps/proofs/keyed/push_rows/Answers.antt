@@ -1,6 +1,5 @@
 use Rattle.std.proofs.Common.{length, take, ap, ◌∙◌}
-use Rattle.rc_maps.specs.Keyed.{values_of_walk}
-use Rattle.rc_maps.specs.PushLaws.{kept_before, on_err, walked_next}
+use Rattle.rc_maps.proofs.Imports.{values_of_walk, kept_before, on_err, walked_next}
 use Rattle.rc_maps.proofs.keyed.push_rows.Goals as goal
 
 pub returns-in_err-push_row-clause-err : goal.returns-in_err-push_row-clause-err

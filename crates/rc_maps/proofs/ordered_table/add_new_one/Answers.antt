@@ -1,11 +1,7 @@
 use Rattle.std.proofs.Common.{rules, ◌≡◌, [], ◌∷◌, Some, None, refl, sym, ap, ◌∙◌}
 use Rattle.std.specs.FinMap as fin
 use Rattle.std.specs.BTreeMap.Entry.{entry_value}
-use Rattle.std.proofs.lemmas.Result.{on_err_weaker}
-use Rattle.rc_edges.specs.OneMapLaws.{if_ok}
-use Rattle.rc_edges.specs.RowsLaws.{started_at, started_new}
-use Rattle.rc_maps.specs.Keyed.{entries_one}
-use Rattle.rc_maps.specs.TableLaws.{stays}
+use Rattle.rc_maps.proofs.Imports.{on_err_weaker, if_ok, started_at, started_new, entries_one, stays}
 use Rattle.rc_maps.specs.OrderedLaws.{changed_one, found_one}
 use Rattle.rc_maps.proofs.ordered_table.add_new_one.Goals as goal
 use Rattle.rc_maps.proofs.ordered_table.add_new_one.Goals.{After-into_mut, In-Vacant}

@@ -1,11 +1,6 @@
 use Rattle.std.proofs.Common.{◌≡◌, ◌+◌, ◌<◌, ◌∷◌, drop, map, length, slice_index_or, refl, sym, ap, subst, ◌∙◌, arith}
-use Rattle.std.specs.List.{All}
+use Rattle.rc_maps.proofs.Imports.{All, drop_all, drop_more, get_or-map, length-map, Values, Counted, HasWidth, AreApart, pair_of, IsCopied, IsCopied-none, IsCopied-more, IsCopied-all}
 use Rattle.std.specs.FinMap as fin
-use Rattle.std.proofs.lemmas.List.{drop_all, drop_more, get_or-map, length-map}
-use Rattle.rc_edges.specs.Values.{Values}
-use Rattle.rc_edges.specs.EdgeMap.{Counted, HasWidth}
-use Rattle.rc_maps.specs.Keyed.{AreApart, pair_of}
-use Rattle.rc_maps.specs.WalkLaws.{IsCopied, IsCopied-none, IsCopied-more, IsCopied-all}
 use Rattle.rc_maps.proofs.table_edge.copy_of.Goals as goal
 
 pub loop-keyed-init : goal.loop-keyed-init

@@ -1,6 +1,5 @@
 use Rattle.std.proofs.Common.{◌≡◌, drop, map}
-use Rattle.rc_maps.specs.Keyed.{pair_of}
-use Rattle.rc_maps.specs.WalkLaws.{IsCopied}
+use Rattle.rc_maps.proofs.Imports.{pair_of, IsCopied}
 use Rattle.rc_maps.proofs.table_edge.copy_of.Given as goal
 
 abbrev pub invariant-loop-keyed : goal.invariant-loop-keyed

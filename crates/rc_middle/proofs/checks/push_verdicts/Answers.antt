@@ -1,7 +1,4 @@
-use Rattle.std.proofs.Common.{subst, sym, arith}
-use Rattle.rc_tuple.specs.RisingSet.{In}
-use Rattle.rc_tuple.specs.RisingSetLaws.{get_or_in}
-use Rattle.rc_handplan.specs.declared.hand.Hand.{Hand}
+use Rattle.rc_middle.proofs.Imports.{subst, sym, arith, In, get_or_in, Hand}
 use Rattle.rc_middle.proofs.checks.push_verdicts.Goals as goal
 use Rattle.rc_middle.proofs.checks.push_verdicts.Goals.{After-hand-item}
 

@@ -1,6 +1,5 @@
 use Rattle.std.proofs.Common.{◌≡◌, []}
-use Rattle.rc_fragment.specs.Holder.{held_of}
-use Rattle.rc_instance.specs.Instance.{IsOfRelation, holding}
+use Rattle.rc_middle.proofs.Imports.{held_of, IsOfRelation, holding}
 use Rattle.rc_middle.proofs.machine.make_lines.Given as goal
 
 abbrev pub invariant-loop-line : goal.invariant-loop-line

@@ -1,5 +1,4 @@
-use Rattle.rc_fragment.specs.Holder.{IsHeldExclusive, held_of}
-use Rattle.rc_instance.specs.Instance.{holding}
+use Rattle.rc_middle.proofs.Imports.{IsHeldExclusive, held_of, holding}
 use Rattle.rc_middle.proofs.rows.fragment_of.Goals as goal
 
 pub fragment-requires : goal.fragment-requires

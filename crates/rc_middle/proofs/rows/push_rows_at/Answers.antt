@@ -1,8 +1,5 @@
 use Rattle.std.proofs.Common.{◌≡◌, ◌<◌, length, sym, subst, arith}
-use Rattle.std.specs.Prelude.{List}
-use Rattle.std.proofs.lemmas.List.FromFn.{length-map-range_with_len}
-use Rattle.rc_fragment.specs.Fragment.{edge_table, shape_of}
-use Rattle.rc_fragment.specs.declared.shape.EdgeShape.{EdgeShape}
+use Rattle.rc_middle.proofs.Imports.{List, length-map-range_with_len, edge_table, shape_of, EdgeShape}
 use Rattle.rc_middle.proofs.rows.push_rows_at.Goals as goal
 
 pub rows-requires : goal.rows-requires

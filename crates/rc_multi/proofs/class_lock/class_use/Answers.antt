@@ -1,9 +1,5 @@
 use Rattle.std.proofs.Common.{◌≡◌, ◌∙◌, ap}
-use Rattle.std.proofs.lemmas.List.{take_all}
-use Rattle.rc_tuple.specs.ColSet.{is_within}
-use Rattle.rc_plan.specs.Compiled.{plan_at}
-use Rattle.rc_multi.specs.ClassUse.{plan_use}
-use Rattle.rc_multi.specs.GroupLocks.{chooses}
+use Rattle.rc_multi.proofs.Imports.{take_all, is_within, plan_at, plan_use, chooses}
 use Rattle.rc_multi.proofs.class_lock.class_use.Goals as goal
 
 pub returns : goal.returns

@@ -1,13 +1,5 @@
 use Rattle.std.proofs.Common.{◌≡◌, Some, rules, subst, sym, tests, ◌∙◌}
-use Rattle.std.proofs.lemmas.Iterator.{YieldsList-from_slice}
-use Rattle.std.proofs.lemmas.Iterator.Adapters.{serves_from_places}
-use Rattle.rc_tuple.specs.RisingSet.{In}
-use Rattle.rc_tuple.specs.RisingSetLaws.{get_or_in}
-use Rattle.rc_plan.specs.declared.statement.Statement.{Statement}
-use Rattle.rc_plan.specs.Compiled.{plan_at}
-use Rattle.rc_multi.specs.declared.class_lock.ClassLock.{ClassLock}
-use Rattle.rc_multi.specs.Covering.{IsCovered}
-use Rattle.rc_multi.specs.GroupLocks.{class_lock}
+use Rattle.rc_multi.proofs.Imports.{YieldsList-from_slice, serves_from_places, In, get_or_in, Statement, plan_at, ClassLock, IsCovered, class_lock}
 use Rattle.rc_multi.proofs.AnswerLemmas.{all_said}
 use Rattle.rc_multi.proofs.CoverLemmas.{all_covered, each_covered}
 use Rattle.rc_multi.proofs.covering.covers.Goals as goal

@@ -1,9 +1,5 @@
 use Rattle.std.proofs.Common.{ℕ, ◌+◌, Some, arith, rules, tests}
-use Rattle.std.proofs.lemmas.Iterator.{YieldsList-from_range}
-use Rattle.rc_spec.specs.Placement.{class_at}
-use Rattle.rc_spec.specs.Stripes.{band_start}
-use Rattle.rc_fragment.specs.Holder.{MayTake}
-use Rattle.rc_plan.specs.StripeLocksLaws.{band_of_class}
+use Rattle.rc_multi.proofs.Imports.{YieldsList-from_range, class_at, band_start, MayTake, band_of_class}
 use Rattle.rc_multi.proofs.AnswerLemmas.{all_said}
 use Rattle.rc_multi.proofs.covering.is_band_covered.Goals as goal
 

@@ -1,7 +1,5 @@
 use Rattle.std.proofs.Common.{◌≡◌, Some, sym, subst, ◌∙◌}
-use Rattle.rc_multi.specs.declared.class_lock.ClassLock.{ClassLock}
-use Rattle.rc_multi.specs.Covering.{IsCovered}
-use Rattle.rc_multi.specs.GroupLocks.{class_lock}
+use Rattle.rc_multi.proofs.Imports.{ClassLock, IsCovered, class_lock}
 use Rattle.rc_multi.proofs.covering.is_covered.Goals as goal
 
 pub returns-in-Some : goal.returns-in-Some

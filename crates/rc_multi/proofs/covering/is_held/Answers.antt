@@ -1,7 +1,5 @@
 use Rattle.std.proofs.Common.{◌≡◌, ℕ, refl, rules, subst, tests}
-use Rattle.std.proofs.lemmas.Iterator.{YieldsList-from_slice}
-use Rattle.rc_tuple.specs.RisingSet.{In}
-use Rattle.rc_spec.specs.Locks.{StripeLock, Suffices}
+use Rattle.rc_multi.proofs.Imports.{YieldsList-from_slice, In, StripeLock, Suffices}
 use Rattle.rc_multi.proofs.AnswerLemmas.{any_said}
 use Rattle.rc_multi.proofs.covering.is_held.Goals as goal
 

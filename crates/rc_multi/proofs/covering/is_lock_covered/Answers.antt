@@ -1,9 +1,5 @@
 use Rattle.std.proofs.Common.{◌≡◌, ◌∙◌, ap, sym, subst, Bool, Some}
-use Rattle.rc_tuple.specs.ColSet.{is_within}
-use Rattle.rc_spec.specs.declared.spec.Spec.{Spec}
-use Rattle.rc_spec.specs.Placement.{class_at}
-use Rattle.rc_fragment.specs.Holder.{MayTake}
-use Rattle.rc_multi.specs.GroupLocks.{chooses, may_be_any}
+use Rattle.rc_multi.proofs.Imports.{is_within, Spec, class_at, MayTake, chooses, may_be_any}
 use Rattle.rc_multi.proofs.CoverLemmas.{any_covered, own_covered}
 use Rattle.rc_multi.proofs.covering.is_lock_covered.Goals.{After-may_be_any}
 use Rattle.rc_multi.proofs.covering.is_lock_covered.Goals as goal

@@ -1,7 +1,4 @@
-use Rattle.std.proofs.Common.{rules, tests}
-use Rattle.std.proofs.lemmas.Iterator.{YieldsList-from_slice}
-use Rattle.rc_tuple.specs.RisingSetLaws.{each_in, in_each}
-use Rattle.rc_spec.specs.Calls.{Fits}
+use Rattle.rc_multi.proofs.Imports.{rules, tests, YieldsList-from_slice, each_in, in_each, Fits}
 use Rattle.rc_multi.proofs.AnswerLemmas.{all_said}
 use Rattle.rc_multi.proofs.fitting.all_fit.Goals as goal
 

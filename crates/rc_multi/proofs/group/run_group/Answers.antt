@@ -1,13 +1,5 @@
 use Rattle.std.proofs.Common.{◌∙◌, refl, sym, subst, arith}
-use Rattle.rc_tuple.specs.RisingSetLaws.{get_or_in}
-use Rattle.rc_tuple.specs.RisingSet.{In}
-use Rattle.rc_spec.specs.declared.call.Call.{Call}
-use Rattle.rc_fragment.specs.Holder.{held_of}
-use Rattle.rc_plan.specs.Compiled.{plan_at}
-use Rattle.rc_multi.specs.GroupRun.{IsGroupAt}
-use Rattle.rc_multi.specs.GroupRunLaws.{first_at, next_at, now_at, suffice_still}
-use Rattle.rc_multi.specs.HeldStripes.{all_taken}
-use Rattle.rc_multi.specs.OfferedLaws.{lent_again}
+use Rattle.rc_multi.proofs.Imports.{get_or_in, In, Call, held_of, plan_at, IsGroupAt, first_at, next_at, now_at, suffice_still, all_taken, lent_again}
 use Rattle.rc_multi.proofs.group.run_group.Goals as goal
 
 pub loop-call-init : goal.loop-call-init

@@ -1,8 +1,5 @@
 use Rattle.std.specs.Prelude.{◌≡◌}
-use Rattle.rc_fragment.specs.Holder.{held_of}
-use Rattle.rc_machine.specs.Apply.{IsSameButLent}
-use Rattle.rc_multi.specs.GroupRun.{IsGroupAt}
-use Rattle.rc_multi.specs.HeldStripes.{all_taken}
+use Rattle.rc_multi.proofs.Imports.{held_of, IsSameButLent, IsGroupAt, all_taken}
 use Rattle.rc_multi.proofs.group.run_group.Given as goal
 
 abbrev pub invariant-loop-call : goal.invariant-loop-call

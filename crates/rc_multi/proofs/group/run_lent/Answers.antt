@@ -1,6 +1,4 @@
-use Rattle.std.proofs.Common.{ap, refl, subst, sym}
-use Rattle.rc_machine.specs.Apply.{IsSameButLent}
-use Rattle.rc_multi.specs.OfferedLaws.{first_offered}
+use Rattle.rc_multi.proofs.Imports.{ap, refl, subst, sym, IsSameButLent, first_offered}
 use Rattle.rc_multi.proofs.group.run_lent.Goals as goal
 
 pub invariant_of-offered : goal.invariant_of-offered

@@ -1,16 +1,6 @@
 use Rattle.std.proofs.Common.{◌≡◌, List, Some, Err, ap, subst, sym, ◌∙◌}
-use Rattle.rc_machine.specs.Apply.{IsSameButLent}
-use Rattle.rc_machine.specs.Machine.{locks_of}
-use Rattle.rc_machine.specs.ReplyLaws.{answered_of, told_answer_err}
+use Rattle.rc_multi.proofs.Imports.{IsSameButLent, locks_of, answered_of, told_answer_err, Spec, HeldStripe, Holding, MayTake, held_of, plan_at, taken_after, all_taken, IsFromSo, has_run_over, from_start, held_end, none_risen, ran_taking}
 use Rattle.rc_machine.specs.declared.stop.Stop.TheVariants as stop
-use Rattle.rc_spec.specs.declared.spec.Spec.{Spec}
-use Rattle.rc_fragment.specs.Holder.{HeldStripe, Holding, MayTake, held_of}
-use Rattle.rc_plan.specs.Compiled.{plan_at}
-use Rattle.rc_multi.specs.GroupRunLaws.{taken_after}
-use Rattle.rc_multi.specs.HeldStripes.{all_taken}
-use Rattle.rc_multi.specs.Offered.{IsFromSo}
-use Rattle.rc_multi.specs.OfferingLaws.{has_run_over}
-use Rattle.rc_multi.specs.OfferedLaws.{from_start, held_end, none_risen, ran_taking}
 use Rattle.rc_multi.proofs.group.run_offered.Given.{Over}
 use Rattle.rc_multi.proofs.group.run_offered.Goals.{After-run_statements}
 use Rattle.rc_multi.proofs.group.run_offered.Goals as goal

@@ -1,10 +1,5 @@
 use Rattle.std.proofs.Common.{ℕ, ◌∷◌, ◌++◌, [], zero-add, sym, ap, ◌∙◌}
-use Rattle.std.specs.List.{flat_map, range_with_len}
-use Rattle.std.proofs.lemmas.List.{append-nil}
-use Rattle.std.proofs.lemmas.Grind.{flat_map-append}
-use Rattle.rc_tuple.specs.ColSetLaws.{range_with_len_more}
-use Rattle.rc_plan.specs.Turns.{with_plans}
-use Rattle.rc_multi.specs.ClassUse.{class_locks}
+use Rattle.rc_multi.proofs.Imports.{flat_map, range_with_len, append-nil, flat_map-append, range_with_len_more, with_plans, class_locks}
 use Rattle.rc_multi.proofs.locks.group_locks.Goals as goal
 
 pub loop-class-preserved : goal.loop-class-preserved

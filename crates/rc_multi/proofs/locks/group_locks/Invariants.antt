@@ -1,7 +1,5 @@
 use Rattle.std.proofs.Common.{◌≡◌}
-use Rattle.std.specs.List.{flat_map, range_with_len}
-use Rattle.rc_plan.specs.Turns.{with_plans}
-use Rattle.rc_multi.specs.ClassUse.{class_locks}
+use Rattle.rc_multi.proofs.Imports.{flat_map, range_with_len, with_plans, class_locks}
 use Rattle.rc_multi.proofs.locks.group_locks.Given as goal
 
 abbrev pub invariant-loop-class : goal.invariant-loop-class

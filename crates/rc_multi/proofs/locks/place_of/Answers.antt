@@ -1,9 +1,5 @@
 use Rattle.std.proofs.Common.{◌≡◌, ◌<◌, ap, sym, subst, get_or, length, ◌∙◌}
-use Rattle.std.specs.Ordering.{nat_cmp}
-use Rattle.std.proofs.lemmas.List.{get_or-map, length-map}
-use Rattle.rc_spec.specs.declared.lock.Mode.TheVariants.{Shared}
-use Rattle.rc_spec.specs.Locks.{StripeLock}
-use Rattle.rc_plan.specs.StripeLocks.{stripes_of}
+use Rattle.rc_multi.proofs.Imports.{nat_cmp, get_or-map, length-map, Shared, StripeLock, stripes_of}
 use Rattle.rc_multi.proofs.ClassLemmas.{place_before, place_behind, place_there}
 use Rattle.rc_multi.proofs.locks.place_of.Goals.{After-cmp}
 use Rattle.rc_multi.proofs.locks.place_of.Goals as goal

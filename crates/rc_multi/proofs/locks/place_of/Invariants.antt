@@ -1,7 +1,5 @@
 use Rattle.std.proofs.Common.{◌≡◌, ◌++◌, drop, take}
-use Rattle.std.specs.Ordering.{nat_cmp}
-use Rattle.rc_tuple.specs.RisingSet.{put}
-use Rattle.rc_plan.specs.StripeLocks.{stripes_of}
+use Rattle.rc_multi.proofs.Imports.{nat_cmp, put, stripes_of}
 use Rattle.rc_multi.proofs.locks.place_of.Given as goal
 
 abbrev pub invariant-loop-at : goal.invariant-loop-at

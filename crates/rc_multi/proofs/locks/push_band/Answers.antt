@@ -1,9 +1,5 @@
 use Rattle.std.proofs.Common.{◌+◌, ◌∷◌, ◌++◌, [], ℕ, sym, ap, ◌∙◌}
-use Rattle.std.proofs.lemmas.List.{append_assoc, map-append}
-use Rattle.std.specs.List.{range_with_len}
-use Rattle.rc_tuple.specs.ColSetLaws.{range_with_len_more}
-use Rattle.rc_spec.specs.Locks.{StripeLock}
-use Rattle.rc_multi.specs.ClassUse.{in_mode}
+use Rattle.rc_multi.proofs.Imports.{append_assoc, map-append, range_with_len, range_with_len_more, StripeLock, in_mode}
 use Rattle.rc_multi.proofs.locks.push_band.Goals as goal
 
 pub loop-place-preserved : goal.loop-place-preserved

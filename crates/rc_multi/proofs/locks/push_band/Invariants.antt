@@ -1,6 +1,5 @@
 use Rattle.std.proofs.Common.{◌≡◌, ◌++◌}
-use Rattle.std.specs.List.{range_with_len}
-use Rattle.rc_multi.specs.ClassUse.{in_mode}
+use Rattle.rc_multi.proofs.Imports.{range_with_len, in_mode}
 use Rattle.rc_multi.proofs.locks.push_band.Given as goal
 
 abbrev pub invariant-loop-place : goal.invariant-loop-place

@@ -1,9 +1,5 @@
 use Rattle.std.proofs.Common.{◌≡◌, ℕ, ◌++◌, ◌<◌, List, get_or, length, take, sym, subst, ◌∙◌, ap, arith}
-use Rattle.std.proofs.lemmas.List.{get_or-map, length-map}
-use Rattle.rc_spec.specs.declared.lock.Mode.TheVariants.{Shared}
-use Rattle.rc_plan.specs.Turns.{CallWithPlan, with_plan, with_plans}
-use Rattle.rc_multi.specs.ClassUse.{class_use, either, in_mode, with_chosen}
-use Rattle.rc_multi.specs.GroupLocks.{chosen_stripes}
+use Rattle.rc_multi.proofs.Imports.{get_or-map, length-map, Shared, CallWithPlan, with_plan, with_plans, class_use, either, in_mode, with_chosen, chosen_stripes}
 use Rattle.rc_multi.proofs.ClassLemmas.{chosen_more, group_use_more}
 use Rattle.rc_multi.proofs.locks.push_chosen.Goals as goal
 

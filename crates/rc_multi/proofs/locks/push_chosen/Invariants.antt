@@ -1,8 +1,5 @@
 use Rattle.std.proofs.Common.{◌≡◌, ◌++◌, take}
-use Rattle.rc_spec.specs.declared.lock.Mode.TheVariants.{Shared}
-use Rattle.rc_plan.specs.Turns.{with_plans}
-use Rattle.rc_multi.specs.ClassUse.{group_use, in_mode}
-use Rattle.rc_multi.specs.GroupLocks.{chosen_stripes}
+use Rattle.rc_multi.proofs.Imports.{Shared, with_plans, group_use, in_mode, chosen_stripes}
 use Rattle.rc_multi.proofs.locks.push_chosen.Given as goal
 
 abbrev pub invariant-loop-call : goal.invariant-loop-call

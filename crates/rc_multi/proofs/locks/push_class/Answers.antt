@@ -1,9 +1,5 @@
 use Rattle.std.proofs.Common.{◌≡◌, ℕ, ◌++◌, List, length, ◌∙◌, ap, arith}
-use Rattle.rc_spec.specs.declared.lock.Mode.TheVariants.{Shared}
-use Rattle.rc_spec.specs.Locks.{StripeLock}
-use Rattle.rc_plan.specs.Turns.{CallWithPlan, with_plans}
-use Rattle.rc_multi.specs.ClassUse.{in_mode}
-use Rattle.rc_multi.specs.GroupLocks.{chosen_stripes}
+use Rattle.rc_multi.proofs.Imports.{Shared, StripeLock, CallWithPlan, with_plans, in_mode, chosen_stripes}
 use Rattle.rc_multi.proofs.ClassLemmas.{class_in_mode, tail_written}
 use Rattle.rc_multi.proofs.locks.push_class.Goals as goal
 

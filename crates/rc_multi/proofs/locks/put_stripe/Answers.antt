@@ -1,7 +1,5 @@
 use Rattle.std.proofs.Common.{Some, None, subst, ◌∙◌}
-use Rattle.std.specs.Ordering.{nat_cmp}
-use Rattle.rc_tuple.specs.RisingSet.{IsPlace}
-use Rattle.rc_plan.specs.StripeLocks.{stripes_of}
+use Rattle.rc_multi.proofs.Imports.{nat_cmp, IsPlace, stripes_of}
 use Rattle.rc_multi.proofs.ClassLemmas.{put_new, put_old, tail_is}
 use Rattle.rc_multi.proofs.locks.put_stripe.Goals as goal
 

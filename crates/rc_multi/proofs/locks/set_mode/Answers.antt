@@ -1,8 +1,5 @@
 use Rattle.std.proofs.Common.{ℕ, ◌<◌, get_or, length, arith}
-use Rattle.std.proofs.lemmas.List.{get_or_default}
-use Rattle.std.proofs.lemmas.List.Edits.{map_over_more}
-use Rattle.rc_spec.specs.declared.lock.Mode.TheVariants.{Shared}
-use Rattle.rc_spec.specs.Locks.{StripeLock}
+use Rattle.rc_multi.proofs.Imports.{get_or_default, map_over_more, Shared, StripeLock}
 use Rattle.rc_multi.proofs.locks.set_mode.Goals as goal
 
 pub loop-lock-preserved : goal.loop-lock-preserved

@@ -1,7 +1,5 @@
 use Rattle.std.proofs.Common.{◌≡◌, Some, sym, subst, ◌∙◌}
-use Rattle.rc_plan.specs.StripeLocks.{IsOfClass}
-use Rattle.rc_multi.specs.declared.class_lock.ClassLock.{ClassLock}
-use Rattle.rc_multi.specs.GroupLocks.{class_lock}
+use Rattle.rc_multi.proofs.Imports.{IsOfClass, ClassLock, class_lock}
 use Rattle.rc_multi.proofs.using.locks_class_of.Goals as goal
 
 pub returns-in-Some : goal.returns-in-Some

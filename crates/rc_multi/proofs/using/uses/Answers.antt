@@ -1,11 +1,5 @@
 use Rattle.std.proofs.Common.{rules, subst, sym, tests, ◌∙◌}
-use Rattle.std.proofs.lemmas.Iterator.{YieldsList-from_slice}
-use Rattle.std.proofs.lemmas.Iterator.Adapters.{serves_from_places}
-use Rattle.rc_tuple.specs.RisingSet.{In}
-use Rattle.rc_tuple.specs.RisingSetLaws.{get_or_in}
-use Rattle.rc_plan.specs.declared.statement.Statement.{Statement}
-use Rattle.rc_plan.specs.Compiled.{plan_at}
-use Rattle.rc_multi.specs.GroupLocks.{LocksClassOf}
+use Rattle.rc_multi.proofs.Imports.{YieldsList-from_slice, serves_from_places, In, get_or_in, Statement, plan_at, LocksClassOf}
 use Rattle.rc_multi.proofs.AnswerLemmas.{any_said}
 use Rattle.rc_multi.proofs.UseLemmas.{locking_statement, plan_locks}
 use Rattle.rc_multi.proofs.using.uses.Goals as goal

@@ -1,10 +1,5 @@
 use Rattle.std.proofs.Common.{◌<◌, ◌∙◌, arith, ap, sym, length}
-use Rattle.std.specs.List.{range_with_len}
-use Rattle.std.specs.Ordering.{nat_cmp}
-use Rattle.rc_tuple.specs.RisingSet.{put}
-use Rattle.rc_spec.specs.Placement.{class_of}
-use Rattle.rc_query.specs.Planned.{classes_of_edges}
-use Rattle.rc_query.specs.StatementsLaws.{class_below}
+use Rattle.rc_mutate.proofs.Imports.{range_with_len, nat_cmp, put, class_of, classes_of_edges, class_below}
 use Rattle.rc_mutate.proofs.WriteLemmas.{range_classes_more}
 use Rattle.rc_mutate.proofs.classes.written_classes.Goals as goal
 

@@ -1,6 +1,5 @@
 use Rattle.std.proofs.Common.{◌≡◌}
-use Rattle.std.specs.List.{range_with_len}
-use Rattle.rc_query.specs.Planned.{classes_of_edges}
+use Rattle.rc_mutate.proofs.Imports.{range_with_len, classes_of_edges}
 use Rattle.rc_mutate.proofs.classes.written_classes.Given as goal
 
 abbrev pub invariant-loop-edge : goal.invariant-loop-edge

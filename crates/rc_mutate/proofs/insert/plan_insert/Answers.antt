@@ -1,10 +1,5 @@
 use Rattle.std.proofs.Common.{◌≡◌, ◌∙◌, List, sym}
-use Rattle.std.proofs.lemmas.Result.{IfOk-weaker}
-use Rattle.rc_plan.specs.declared.statement.Statement.{Statement}
-use Rattle.rc_query.specs.OpLaws.{gather_some}
-use Rattle.rc_query.specs.Laws.{IsAcceptedFor}
-use Rattle.rc_query.specs.Planned.{Routing, ChoosesRoutes, IsPlanned, insert_plan, insert_probes}
-use Rattle.rc_query.specs.PlannedLaws.{accepted_if_planned}
+use Rattle.rc_mutate.proofs.Imports.{IfOk-weaker, Statement, gather_some, IsAcceptedFor, Routing, ChoosesRoutes, IsPlanned, insert_plan, insert_probes, accepted_if_planned}
 use Rattle.rc_mutate.proofs.WriteLemmas.{insert_planned}
 use Rattle.rc_mutate.proofs.insert.plan_insert.Goals as goal
 

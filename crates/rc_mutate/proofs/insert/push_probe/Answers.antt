@@ -1,5 +1,4 @@
-use Rattle.std.proofs.Common.{subst}
-use Rattle.rc_tuple.specs.RisingSet.{In}
+use Rattle.rc_mutate.proofs.Imports.{subst, In}
 use Rattle.rc_mutate.proofs.insert.push_probe.Goals as goal
 
 pub push_locks_and_reads-requires-clause-edges : goal.push_locks_and_reads-requires-clause-edges

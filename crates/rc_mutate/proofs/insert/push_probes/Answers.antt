@@ -1,7 +1,4 @@
-use Rattle.std.proofs.Common.{sym, subst}
-use Rattle.rc_tuple.specs.RisingSet.{In}
-use Rattle.rc_tuple.specs.RisingSetLaws.{get_or_in}
-use Rattle.rc_query.specs.declared.probe.PlannedProbe.{PlannedProbe}
+use Rattle.rc_mutate.proofs.Imports.{sym, subst, In, get_or_in, PlannedProbe}
 use Rattle.rc_mutate.proofs.insert.push_probes.Goals as goal
 
 pub push_probe-requires-clause-edges : goal.push_probe-requires-clause-edges

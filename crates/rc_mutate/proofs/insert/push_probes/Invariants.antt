@@ -1,6 +1,5 @@
 use Rattle.std.proofs.Common.{◌≡◌, ◌++◌, take}
-use Rattle.std.specs.List.{flat_map}
-use Rattle.rc_query.specs.Planned.{probe_statements}
+use Rattle.rc_mutate.proofs.Imports.{flat_map, probe_statements}
 use Rattle.rc_mutate.proofs.insert.push_probes.Given as goal
 
 abbrev pub invariant-loop-probe : goal.invariant-loop-probe

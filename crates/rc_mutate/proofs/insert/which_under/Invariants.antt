@@ -1,6 +1,5 @@
 use Rattle.std.proofs.Common.{◌≡◌, false, take}
-use Rattle.std.specs.List.{list_any}
-use Rattle.rc_query.specs.Planned.{reads_unbound}
+use Rattle.rc_mutate.proofs.Imports.{list_any, reads_unbound}
 use Rattle.rc_mutate.proofs.insert.which_under.Given as goal
 
 abbrev pub invariant-loop-probe : goal.invariant-loop-probe

@@ -1,11 +1,5 @@
 use Rattle.std.proofs.Common.{◌≡◌, ◌<◌, ◌∙◌, ◌+◌, ◌++◌, ◌∷◌, [], List, length, ap, sym, subst, arith}
-use Rattle.std.proofs.lemmas.List.{length-append}
-use Rattle.rc_spec.specs.declared.spec.Spec.{Spec}
-use Rattle.rc_spec.specs.Placement.{op_at}
-use Rattle.rc_plan.specs.declared.statement.Statement.{Statement}
-use Rattle.rc_plan.specs.Compiled.{plan_at}
-use Rattle.rc_query.specs.Planned.{IsPlanned}
-use Rattle.rc_query.specs.PlannedLaws.{planned_accepted}
+use Rattle.rc_mutate.proofs.Imports.{length-append, Spec, op_at, Statement, plan_at, IsPlanned, planned_accepted}
 use Rattle.rc_mutate.proofs.WriteLemmas.{plan_more}
 use Rattle.rc_mutate.proofs.operations.plan_all.Goals as goal
 

@@ -1,9 +1,5 @@
 use Rattle.std.proofs.Common.{◌≡◌, ◌<◌, ℕ, List, length}
-use Rattle.rc_spec.specs.declared.spec.Spec.{Spec}
-use Rattle.rc_spec.specs.Placement.{op_at}
-use Rattle.rc_plan.specs.declared.statement.Statement.{Statement}
-use Rattle.rc_plan.specs.Compiled.{plan_at}
-use Rattle.rc_query.specs.Planned.{IsPlanned}
+use Rattle.rc_mutate.proofs.Imports.{Spec, op_at, Statement, plan_at, IsPlanned}
 use Rattle.rc_mutate.proofs.operations.plan_all.Given as goal
 
 -- the first operations have their plans

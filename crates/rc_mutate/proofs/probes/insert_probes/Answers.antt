@@ -1,10 +1,5 @@
 use Rattle.std.proofs.Common.{◌≡◌, ◌∙◌, ◌+◌, ap, sym, subst, Vec, Global}
-use Rattle.rc_tuple.specs.declared.dep.Dep.{Dep}
-use Rattle.rc_tuple.specs.ColSet.{Within}
-use Rattle.rc_spec.specs.Calls.{all_columns}
-use Rattle.rc_plan.specs.Evaluation.{dep_at}
-use Rattle.rc_query.specs.declared.probe.PlannedProbe.{PlannedProbe}
-use Rattle.rc_query.specs.OpLaws.{union_some}
+use Rattle.rc_mutate.proofs.Imports.{Dep, Within, all_columns, dep_at, PlannedProbe, union_some}
 use Rattle.rc_mutate.proofs.WriteLemmas.{dep_found, dep_among, need_known, probes_same, probes_more}
 use Rattle.rc_mutate.proofs.probes.insert_probes.Goals as goal
 use Rattle.rc_mutate.proofs.probes.insert_probes.Goals.{then-not-within+in_ok-probe_for-2+in_ok-push-2, else-not-within}

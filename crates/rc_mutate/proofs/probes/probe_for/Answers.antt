@@ -1,6 +1,4 @@
-use Rattle.std.proofs.Common.{ap, List, ℕ}
-use Rattle.rc_query.specs.declared.probe.PlannedProbe.{PlannedProbe}
-use Rattle.rc_query.specs.PlannedLaws.{route_is_chosen}
+use Rattle.rc_mutate.proofs.Imports.{ap, List, ℕ, PlannedProbe, route_is_chosen}
 use Rattle.rc_mutate.proofs.probes.probe_for.Goals as goal
 
 pub returns : goal.returns

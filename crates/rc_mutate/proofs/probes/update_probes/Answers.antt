@@ -1,13 +1,5 @@
 use Rattle.std.proofs.Common.{◌≡◌, ◌∙◌, ◌+◌, ap, sym, subst, Vec, Global}
-use Rattle.rc_tuple.specs.declared.dep.Dep.{Dep}
-use Rattle.rc_tuple.specs.RisingSet.{In}
-use Rattle.rc_tuple.specs.ColSet.{Within}
-use Rattle.rc_tuple.specs.ColSetLaws.{union_within}
-use Rattle.rc_spec.specs.declared.spec.Spec.{Spec}
-use Rattle.rc_spec.specs.Calls.{all_columns}
-use Rattle.rc_plan.specs.Evaluation.{dep_at}
-use Rattle.rc_query.specs.declared.probe.PlannedProbe.{PlannedProbe}
-use Rattle.rc_query.specs.OpLaws.{union_some}
+use Rattle.rc_mutate.proofs.Imports.{Dep, In, Within, union_within, Spec, all_columns, dep_at, PlannedProbe, union_some}
 use Rattle.rc_mutate.proofs.WriteLemmas.{dep_found, dep_among, need_known, update_probes_same, update_probes_more, all_some, union_some_left}
 use Rattle.rc_mutate.proofs.probes.update_probes.Goals as goal
 use Rattle.rc_mutate.proofs.probes.update_probes.Goals.{then-not-within+in_ok-probe_for-2+in_ok-push-2, else-not-within}

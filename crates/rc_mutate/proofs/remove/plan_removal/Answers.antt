@@ -1,14 +1,5 @@
 use Rattle.std.proofs.Common.{◌≡◌, ◌<◌, ◌∙◌, length, sym, subst, ap}
-use Rattle.rc_tuple.specs.RisingSet.{In}
-use Rattle.rc_spec.specs.declared.spec.Spec.{Spec}
-use Rattle.rc_spec.specs.Acceptance.{IsSealed}
-use Rattle.rc_spec.specs.Calls.{all_columns}
-use Rattle.rc_route.specs.GoodRoutes.{all_edges}
-use Rattle.rc_route.specs.GoodRoutesLaws.{good_known}
-use Rattle.rc_route.specs.Paths.{IsChosenRoute}
-use Rattle.rc_query.specs.Planned.{remove_plan}
-use Rattle.rc_query.specs.PlannedLaws.{route_is_chosen}
-use Rattle.rc_query.specs.ProgressLaws.{classes_known, in_edge}
+use Rattle.rc_mutate.proofs.Imports.{In, Spec, IsSealed, all_columns, all_edges, good_known, IsChosenRoute, remove_plan, route_is_chosen, classes_known, in_edge}
 use Rattle.rc_mutate.proofs.WriteLemmas.{removal_made}
 use Rattle.rc_mutate.proofs.remove.plan_removal.Goals as goal
 

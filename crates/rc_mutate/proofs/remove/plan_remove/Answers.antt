@@ -1,10 +1,5 @@
 use Rattle.std.proofs.Common.{◌≡◌, List}
-use Rattle.std.proofs.lemmas.Result.{IfOk-weaker}
-use Rattle.rc_spec.specs.Calls.{all_columns}
-use Rattle.rc_plan.specs.declared.statement.Statement.{Statement}
-use Rattle.rc_query.specs.Laws.{IsAcceptedFor}
-use Rattle.rc_query.specs.Planned.{Routing, ChoosesRoutes, IsPlanned, remove_plan}
-use Rattle.rc_query.specs.PlannedLaws.{accepted_if_planned}
+use Rattle.rc_mutate.proofs.Imports.{IfOk-weaker, all_columns, Statement, IsAcceptedFor, Routing, ChoosesRoutes, IsPlanned, remove_plan, accepted_if_planned}
 use Rattle.rc_mutate.proofs.WriteLemmas.{remove_planned}
 use Rattle.rc_mutate.proofs.remove.plan_remove.Goals as goal
 

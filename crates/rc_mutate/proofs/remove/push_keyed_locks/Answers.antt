@@ -1,9 +1,6 @@
 use Rattle.std.proofs.Common.{◌≡◌, ◌∙◌, ap, sym, Some, ◌++◌, ◌∷◌, []}
-use Rattle.std.specs.List.{slice_get}
-use Rattle.rc_spec.specs.declared.lock.Mode.TheVariants.{Exclusive}
-use Rattle.rc_plan.specs.declared.statement.Statement.TheVariants.{Lock}
+use Rattle.rc_mutate.proofs.Imports.{slice_get, Exclusive, Lock, locks_more}
 use Rattle.rc_plan.specs.declared.statement.Which.TheVariants as which
-use Rattle.rc_query.specs.StatementsLaws.{locks_more}
 use Rattle.rc_mutate.proofs.remove.push_keyed_locks.Goals as goal
 
 pub loop-place-preserved : goal.loop-place-preserved

@@ -1,7 +1,6 @@
 use Rattle.std.proofs.Common.{◌≡◌, ◌++◌, take}
 use Rattle.rc_plan.specs.declared.statement.Which.TheVariants as which
-use Rattle.rc_spec.specs.declared.lock.Mode.TheVariants.{Exclusive}
-use Rattle.rc_query.specs.Planned.{locks}
+use Rattle.rc_mutate.proofs.Imports.{Exclusive, locks}
 use Rattle.rc_mutate.proofs.remove.push_keyed_locks.Given as goal
 
 abbrev pub invariant-loop-place : goal.invariant-loop-place

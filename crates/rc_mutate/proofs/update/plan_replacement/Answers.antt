@@ -1,13 +1,5 @@
 use Rattle.std.proofs.Common.{◌≡◌, ◌<◌, ◌∙◌, List, length, sym, subst}
-use Rattle.rc_tuple.specs.RisingSet.{In}
-use Rattle.rc_spec.specs.declared.spec.Spec.{Spec}
-use Rattle.rc_spec.specs.Acceptance.{IsSealed}
-use Rattle.rc_route.specs.GoodRoutes.{all_edges}
-use Rattle.rc_query.specs.declared.probe.PlannedProbe.{PlannedProbe}
-use Rattle.rc_query.specs.UpdatePlanLaws.{update_edges_known}
-use Rattle.rc_query.specs.Planned.{Routing, update_probes}
-use Rattle.rc_query.specs.PlannedLaws.{chosen_routing, routing_chooses, chosen_good}
-use Rattle.rc_query.specs.ProgressLaws.{classes_known, in_edge}
+use Rattle.rc_mutate.proofs.Imports.{In, Spec, IsSealed, all_edges, PlannedProbe, update_edges_known, Routing, update_probes, chosen_routing, routing_chooses, chosen_good, classes_known, in_edge}
 use Rattle.rc_mutate.proofs.WriteLemmas.{replacement_made}
 use Rattle.rc_mutate.proofs.update.plan_replacement.Goals as goal
 

@@ -1,9 +1,5 @@
 use Rattle.std.proofs.Common.{◌≡◌, List}
-use Rattle.std.proofs.lemmas.Result.{IfOk-weaker}
-use Rattle.rc_plan.specs.declared.statement.Statement.{Statement}
-use Rattle.rc_query.specs.Laws.{IsAcceptedFor}
-use Rattle.rc_query.specs.Planned.{Routing, ChoosesRoutes, IsPlanned, update_plan, update_probes}
-use Rattle.rc_query.specs.PlannedLaws.{accepted_if_planned}
+use Rattle.rc_mutate.proofs.Imports.{IfOk-weaker, Statement, IsAcceptedFor, Routing, ChoosesRoutes, IsPlanned, update_plan, update_probes, accepted_if_planned}
 use Rattle.rc_mutate.proofs.WriteLemmas.{update_planned}
 use Rattle.rc_mutate.proofs.update.plan_update.Goals as goal
 

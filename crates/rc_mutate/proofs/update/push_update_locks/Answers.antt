@@ -1,10 +1,5 @@
 use Rattle.std.proofs.Common.{◌≡◌, ◌∙◌, ap, sym, Some, ◌++◌, ◌∷◌, [], take}
-use Rattle.std.specs.List.{slice_get}
-use Rattle.rc_tuple.specs.RisingSetLaws.{slice_get_in}
-use Rattle.rc_spec.specs.declared.lock.Mode.TheVariants.{Exclusive}
-use Rattle.rc_plan.specs.declared.statement.Statement.TheVariants.{Lock}
-use Rattle.rc_query.specs.Planned.{locks, update_which}
-use Rattle.rc_query.specs.StatementsLaws.{locks_more}
+use Rattle.rc_mutate.proofs.Imports.{slice_get, slice_get_in, Exclusive, Lock, locks, update_which, locks_more}
 use Rattle.rc_mutate.proofs.update.push_update_locks.Goals as goal
 
 pub update_which-which-requires : goal.update_which-which-requires

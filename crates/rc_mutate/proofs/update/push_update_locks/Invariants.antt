@@ -1,6 +1,5 @@
 use Rattle.std.proofs.Common.{◌≡◌, ◌++◌, take}
-use Rattle.rc_spec.specs.declared.lock.Mode.TheVariants.{Exclusive}
-use Rattle.rc_query.specs.Planned.{locks, update_which}
+use Rattle.rc_mutate.proofs.Imports.{Exclusive, locks, update_which}
 use Rattle.rc_mutate.proofs.update.push_update_locks.Given as goal
 
 abbrev pub invariant-loop-place : goal.invariant-loop-place

@@ -1,6 +1,4 @@
-use Rattle.std.proofs.Common.{sym, subst}
-use Rattle.rc_spec.specs.Acceptance.{IsAccepted}
-use Rattle.rc_spec.specs.AcceptanceLaws.{accepted_from_checks}
+use Rattle.rc_place.proofs.Imports.{sym, subst, IsAccepted, accepted_from_checks}
 use Rattle.rc_place.proofs.acceptance.accept.Goals.{In_default}
 use Rattle.rc_place.proofs.acceptance.accept.Goals as goal
 

@@ -1,7 +1,5 @@
 use Rattle.std.proofs.Common.{◌==◌, rules, tests}
-use Rattle.std.proofs.lemmas.Iterator.{YieldsList-from_slice}
-use Rattle.std.proofs.lemmas.Iterator.Search.{any_from_yields_List}
-use Rattle.rc_spec.specs.declared.items.Edge.{Edge}
+use Rattle.rc_place.proofs.Imports.{YieldsList-from_slice, any_from_yields_List, Edge}
 use Rattle.rc_place.proofs.AdequacyLemmas.{reached_test}
 use Rattle.rc_place.proofs.adequacy.is_reached.Goals as goal
 

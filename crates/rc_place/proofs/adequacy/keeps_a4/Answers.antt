@@ -1,5 +1,4 @@
-use Rattle.rc_spec.specs.Decomposition.{bound, source_and_key}
-use Rattle.rc_tuple.specs.RelationLaws.{follows_at}
+use Rattle.rc_place.proofs.Imports.{bound, source_and_key, follows_at}
 use Rattle.rc_place.proofs.adequacy.keeps_a4.Goals as goal
 
 pub returns : goal.returns

@@ -1,6 +1,4 @@
-use Rattle.std.proofs.Common.{refl}
-use Rattle.rc_spec.specs.Decomposition.{bound}
-use Rattle.rc_tuple.specs.RelationLaws.{follows_at}
+use Rattle.rc_place.proofs.Imports.{refl, bound, follows_at}
 use Rattle.rc_place.proofs.adequacy.keeps_a5.Goals as goal
 
 pub returns-in-Singleton : goal.returns-in-Singleton

@@ -1,10 +1,5 @@
 use Rattle.std.proofs.Common.{◌≡◌, ℕ, ap, sym, ◌∙◌}
-use Rattle.std.proofs.lemmas.Bool.{false≢true}
-use Rattle.rc_spec.specs.declared.items.Edge.{Edge}
-use Rattle.rc_spec.specs.Decomposition.{bound, edge_at}
-use Rattle.rc_spec.specs.DecompositionLaws.{edge_at_found}
-use Rattle.rc_spec.specs.Adequacy.{visited}
-use Rattle.rc_fd.specs.FollowsLaws.{lossless_at}
+use Rattle.rc_place.proofs.Imports.{false≢true, Edge, bound, edge_at, edge_at_found, visited, lossless_at}
 use Rattle.rc_place.proofs.AdequacyLemmas.{reached_at, reached_back}
 use Rattle.rc_place.proofs.adequacy.keeps_a6.Goals as goal
 

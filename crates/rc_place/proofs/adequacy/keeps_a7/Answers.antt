@@ -1,8 +1,5 @@
 use Rattle.std.proofs.Common.{List, length, sym, ap, ◌∙◌, subst}
-use Rattle.rc_tuple.specs.RisingSet.{In}
-use Rattle.rc_tuple.specs.RisingSetLaws.{in_has, has_in}
-use Rattle.rc_spec.specs.declared.items.Edge.{Edge}
-use Rattle.rc_spec.specs.Adequacy.{visited}
+use Rattle.rc_place.proofs.Imports.{In, in_has, has_in, Edge, visited}
 use Rattle.rc_place.proofs.adequacy.keeps_a7.Goals as goal
 
 pub returns : goal.returns

@@ -1,9 +1,5 @@
 use Rattle.std.proofs.Common.{◌<◌, length, sym, ap, ◌∙◌, arith}
-use Rattle.rc_tuple.specs.ColSet.{union}
-use Rattle.rc_spec.specs.declared.items.Edge.{Edge}
-use Rattle.rc_spec.specs.Adequacy.{visited}
-use Rattle.rc_spec.specs.Decomposition.{bound}
-use Rattle.rc_spec.specs.DecompositionLaws.{visited_more}
+use Rattle.rc_place.proofs.Imports.{union, Edge, visited, bound, visited_more}
 use Rattle.rc_place.proofs.adequacy.visited.Goals as goal
 
 pub loop-number-preserved : goal.loop-number-preserved

@@ -1,9 +1,4 @@
-use Rattle.std.proofs.Common.{sym, subst}
-use Rattle.std.proofs.lemmas.Result.{err_from_is_err_and}
-use Rattle.rc_spec.specs.Acceptance.{AreOfKind, IsKept, Step, checks, step_checks, steps}
-use Rattle.rc_spec.specs.AcceptanceLaws.{steps_of_kind}
-use Rattle.rc_spec.specs.First.{EachHolds, IsFirstFailing}
-use Rattle.rc_spec.specs.FirstLaws.{all_more, first_among, judged_err}
+use Rattle.rc_place.proofs.Imports.{sym, subst, err_from_is_err_and, AreOfKind, IsKept, Step, checks, step_checks, steps, steps_of_kind, EachHolds, IsFirstFailing, all_more, first_among, judged_err}
 use Rattle.rc_place.proofs.JudgeLemmas.{at_all, no_step, row_is}
 use Rattle.rc_place.proofs.judging.judge.Goals as goal
 

@@ -1,12 +1,5 @@
 use Rattle.std.proofs.Common.{◌≡◌, ◌<◌, get_or, map, sym, ◌∙◌, subst, arith}
-use Rattle.std.proofs.lemmas.Bool.{false≢true}
-use Rattle.rc_spec.specs.declared.refusal.Item.{Item}
-use Rattle.rc_spec.specs.declared.refusal.Rule.{Rule}
-use Rattle.rc_spec.specs.declared.refusal.Rule.TheVariants.{A1}
-use Rattle.rc_spec.specs.Acceptance.{IsKept, Keeps, check_on, count_of, item_checks, kind_of, step}
-use Rattle.rc_spec.specs.AcceptanceLaws.{number_of_item}
-use Rattle.rc_spec.specs.First.{EachHolds, IsFirstFailing}
-use Rattle.rc_spec.specs.FirstLaws.{each_more, first_at, taken_whole}
+use Rattle.rc_place.proofs.Imports.{false≢true, Item, Rule, A1, IsKept, Keeps, check_on, count_of, item_checks, kind_of, step, number_of_item, EachHolds, IsFirstFailing, each_more, first_at, taken_whole}
 use Rattle.rc_place.proofs.JudgeLemmas.{at_all}
 use Rattle.rc_place.proofs.judging.judge_item.Goals as goal
 

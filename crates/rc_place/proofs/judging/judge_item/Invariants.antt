@@ -1,6 +1,4 @@
-use Rattle.std.proofs.Common.{map, take}
-use Rattle.rc_spec.specs.Acceptance.{IsKept, check_on}
-use Rattle.rc_spec.specs.First.{EachHolds}
+use Rattle.rc_place.proofs.Imports.{map, take, IsKept, check_on, EachHolds}
 use Rattle.rc_place.proofs.judging.judge_item.Given as goal
 
 abbrev pub invariant-loop-rule : goal.invariant-loop-rule

@@ -1,7 +1,5 @@
 use Rattle.std.proofs.Common.{◌<◌, subst, arith}
-use Rattle.std.proofs.lemmas.Result.{err_from_is_err_and}
-use Rattle.rc_spec.specs.Acceptance.{IsKept, count_of, item_checks, step, step_checks}
-use Rattle.rc_spec.specs.FirstLaws.{each_listed, first_listed, judged_err}
+use Rattle.rc_place.proofs.Imports.{err_from_is_err_and, IsKept, count_of, item_checks, step, step_checks, each_listed, first_listed, judged_err}
 use Rattle.rc_place.proofs.judging.judge_items.Goals as goal
 
 pub returns-in_err-judge_item : goal.returns-in_err-judge_item

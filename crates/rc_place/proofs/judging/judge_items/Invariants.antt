@@ -1,6 +1,5 @@
 use Rattle.std.proofs.Common.{ℕ, ◌<◌}
-use Rattle.rc_spec.specs.Acceptance.{IsKept, item_checks, step}
-use Rattle.rc_spec.specs.First.{EachHolds}
+use Rattle.rc_place.proofs.Imports.{IsKept, item_checks, step, EachHolds}
 use Rattle.rc_place.proofs.judging.judge_items.Given as goal
 
 abbrev pub invariant-loop-number : goal.invariant-loop-number

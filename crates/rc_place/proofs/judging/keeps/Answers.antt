@@ -1,8 +1,5 @@
 use Rattle.std.proofs.Common.{◌≡◌, ◌↔◌, true, sym, subst}
-use Rattle.rc_spec.specs.declared.items.Op.{Op}
-use Rattle.rc_spec.specs.declared.refusal.Rule.{Rule}
-use Rattle.rc_spec.specs.Acceptance.{Keeps}
-use Rattle.rc_spec.specs.Placement.{KeepsO3}
+use Rattle.rc_place.proofs.Imports.{Op, Rule, Keeps, KeepsO3}
 use Rattle.rc_place.proofs.judging.keeps.Goals as goal
 
 pub returns-in-P2 : goal.returns-in-P2

@@ -1,9 +1,5 @@
 use Rattle.std.proofs.Common.{◌<◌, length, refl, sym, ap, ◌∙◌, subst, arith}
-use Rattle.std.proofs.lemmas.Bool.{false≢true}
-use Rattle.std.specs.Ordering.{nat_cmp}
-use Rattle.rc_tuple.specs.RisingSet.{In, gather}
-use Rattle.rc_spec.specs.Calls.{all_columns}
-use Rattle.rc_tuple.specs.RelationLaws.{follows_at}
+use Rattle.rc_place.proofs.Imports.{false≢true, nat_cmp, In, gather, all_columns, follows_at}
 use Rattle.rc_place.proofs.ops.keeps_o2.Goals as goal
 
 pub from_list-pattern-requires : goal.from_list-pattern-requires

@@ -1,7 +1,5 @@
 use Rattle.std.proofs.Common.{◌<◌, length, sym, ap, ◌∙◌, subst, not, arith}
-use Rattle.std.proofs.lemmas.Bool.{false≢true}
-use Rattle.rc_tuple.specs.RisingSet.{In}
-use Rattle.rc_spec.specs.InRange.{HasOutsAmong}
+use Rattle.rc_place.proofs.Imports.{false≢true, In, HasOutsAmong}
 use Rattle.rc_place.proofs.PlacementLemmas.{outs_distinct, outs_none}
 use Rattle.rc_place.proofs.ops.keeps_o3.Goals as goal
 

@@ -1,6 +1,5 @@
 use Rattle.std.proofs.Common.{◌≡◌, ◌≤◌, ◌==◌, length, take}
-use Rattle.std.specs.List.{filter}
-use Rattle.rc_spec.specs.declared.items.Place.{Place}
+use Rattle.rc_place.proofs.Imports.{filter, Place}
 use Rattle.rc_place.proofs.placement.count_places.Given as goal
 
 abbrev pub invariant-loop-place : goal.invariant-loop-place

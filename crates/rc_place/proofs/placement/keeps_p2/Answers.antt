@@ -1,7 +1,5 @@
 use Rattle.std.proofs.Common.{◌≡◌, ℕ, sym, ap, ◌∙◌}
-use Rattle.rc_spec.specs.declared.items.Edge.{Edge}
-use Rattle.rc_spec.specs.Decomposition.{edge_at, source_and_key}
-use Rattle.rc_spec.specs.Placement.{striping}
+use Rattle.rc_place.proofs.Imports.{Edge, edge_at, source_and_key, striping}
 use Rattle.rc_place.proofs.PlacementLemmas.{within_at}
 use Rattle.rc_place.proofs.placement.keeps_p2.Goals as goal
 

@@ -1,6 +1,5 @@
 use Rattle.std.proofs.Common.{◌≡◌, ℕ, ◌<◌, ◌≤◌}
-use Rattle.rc_spec.specs.Decomposition.{edge_at}
-use Rattle.rc_spec.specs.Placement.{class_of}
+use Rattle.rc_place.proofs.Imports.{edge_at, class_of}
 use Rattle.rc_place.proofs.placement.keeps_p3.Given as goal
 
 abbrev pub invariant-loop-other : goal.invariant-loop-other

@@ -1,7 +1,5 @@
 use Rattle.std.proofs.Common.{◌≡◌, ℕ, sym, ap, ◌∙◌}
-use Rattle.rc_spec.specs.declared.items.Edge.{Edge}
-use Rattle.rc_spec.specs.Decomposition.{bound, edge_at}
-use Rattle.rc_spec.specs.Placement.{striping}
+use Rattle.rc_place.proofs.Imports.{Edge, bound, edge_at, striping}
 use Rattle.rc_place.proofs.PlacementLemmas.{not_hash, within_at, p5_within}
 use Rattle.rc_place.proofs.placement.keeps_p5.Goals as goal
 

@@ -1,14 +1,5 @@
 use Rattle.std.proofs.Common.{◌≡◌, ℕ, ◌+◌, ◌<◌, length, List, [], ◌∷◌, ◌⊎◌, inl, inr, Option, None, Some, IfSome, get_or, take, refl, subst, sym, ap, ◌∙◌}
-use Rattle.std.proofs.lemmas.List.{take_all, take_more}
-use Rattle.std.proofs.lemmas.Option.{none-some}
-use Rattle.std.specs.Option.{option_or}
-use Rattle.rc_tuple.specs.RisingSet.{In}
-use Rattle.rc_tuple.specs.RisingSetLaws.{get_or_in, in_append}
-use Rattle.rc_plan.specs.Access.{IsAccessPath}
-use Rattle.rc_plan.specs.PlanRules.{IsKnown}
-use Rattle.rc_plan.specs.declared.statement.ReadMode.{ReadMode}
-use Rattle.rc_plan.specs.declared.statement.Statement.{Statement}
-use Rattle.rc_plan.specs.declared.statement.Statement.TheVariants.{Lock, Probe, Read, CheckAbsent, CheckFound, CheckDep, Apply, Emit, Commit, Release}
+use Rattle.rc_plan.proofs.Imports.{take_all, take_more, none-some, option_or, In, get_or_in, in_append, IsAccessPath, IsKnown, ReadMode, Statement, Lock, Probe, Read, CheckAbsent, CheckFound, CheckDep, Apply, Emit, Commit, Release}
 use Rattle.rc_plan.proofs.access.access_path.Goals as goal
 use Rattle.rc_plan.proofs.access.access_path.Goals.{in-Read, in_default}
 

@@ -1,9 +1,5 @@
 use Rattle.std.proofs.Common.{◌≡◌, IfSome, None, take}
-use Rattle.rc_tuple.specs.RisingSet.{In}
-use Rattle.rc_plan.specs.Access.{IsAccessPath}
-use Rattle.rc_plan.specs.declared.access.AccessPath.{AccessPath}
-use Rattle.rc_plan.specs.declared.statement.ReadMode.{ReadMode}
-use Rattle.rc_plan.specs.declared.statement.Statement.TheVariants.{Read}
+use Rattle.rc_plan.proofs.Imports.{In, IsAccessPath, AccessPath, ReadMode, Read}
 use Rattle.rc_plan.proofs.access.access_path.Given as goal
 
 abbrev pub invariant-loop-statement : goal.invariant-loop-statement

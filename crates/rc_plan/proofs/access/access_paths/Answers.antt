@@ -1,13 +1,5 @@
 use Rattle.std.proofs.Common.{◌≡◌, List, [], length, ap, subst, sym, ◌∙◌, arith}
-use Rattle.std.proofs.lemmas.List.{get_or_default, length-set}
-use Rattle.rc_spec.specs.InRange.{IsInRange}
-use Rattle.rc_spec.specs.Placement.{op_at}
-use Rattle.rc_spec.specs.declared.items.Op.{Op}
-use Rattle.rc_spec.specs.declared.spec.Spec.{Spec}
-use Rattle.rc_plan.specs.Access.{IsPathOf}
-use Rattle.rc_plan.specs.Compiled.{plan_at}
-use Rattle.rc_plan.specs.Resolved.{AllBelow}
-use Rattle.rc_plan.specs.declared.statement.Statement.{Statement}
+use Rattle.rc_plan.proofs.Imports.{get_or_default, length-set, IsInRange, op_at, Op, Spec, IsPathOf, plan_at, AllBelow, Statement}
 use Rattle.rc_plan.proofs.ResolvedLemmas.{one_more}
 use Rattle.rc_plan.proofs.access.access_paths.Goals as goal
 

@@ -1,8 +1,5 @@
 use Rattle.std.proofs.Common.{◌≡◌, length}
-use Rattle.rc_spec.specs.Placement.{op_at}
-use Rattle.rc_plan.specs.Access.{IsPathOf}
-use Rattle.rc_plan.specs.Compiled.{plan_at}
-use Rattle.rc_plan.specs.Resolved.{AllBelow}
+use Rattle.rc_plan.proofs.Imports.{op_at, IsPathOf, plan_at, AllBelow}
 use Rattle.rc_plan.proofs.access.access_paths.Given as goal
 
 abbrev pub invariant-loop-op : goal.invariant-loop-op

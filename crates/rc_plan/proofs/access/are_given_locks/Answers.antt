@@ -1,10 +1,4 @@
-use Rattle.std.proofs.Common.{rules, tests, subst, sym}
-use Rattle.std.proofs.lemmas.Iterator.{YieldsList-from_slice}
-use Rattle.std.proofs.lemmas.Iterator.Adapters.{serves_from_places}
-use Rattle.rc_tuple.specs.RisingSet.{In}
-use Rattle.rc_tuple.specs.RisingSetLaws.{get_or_in}
-use Rattle.rc_plan.specs.PlanRules.{IsKnown}
-use Rattle.rc_plan.specs.declared.statement.Statement.{Statement}
+use Rattle.rc_plan.proofs.Imports.{rules, tests, subst, sym, YieldsList-from_slice, serves_from_places, In, get_or_in, IsKnown, Statement}
 use Rattle.rc_plan.proofs.access.are_given_locks.Goals as goal
 
 pub all-requires-clause-callable : goal.all-requires-clause-callable

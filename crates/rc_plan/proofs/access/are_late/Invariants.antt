@@ -1,6 +1,5 @@
 use Rattle.std.proofs.Common.{◌<◌, get_or, take, ℕ}
-use Rattle.rc_plan.specs.Access.{IsLate}
-use Rattle.rc_plan.specs.declared.statement.Statement.TheVariants.{Commit}
+use Rattle.rc_plan.proofs.Imports.{IsLate, Commit}
 use Rattle.rc_plan.proofs.access.are_late.Given as goal
 
 abbrev pub invariant-loop-at : goal.invariant-loop-at

@@ -1,6 +1,5 @@
 use Rattle.std.proofs.Common.{◌≡◌, take, true}
-use Rattle.std.specs.List.{list_all}
-use Rattle.rc_plan.specs.Access.{is_lock}
+use Rattle.rc_plan.proofs.Imports.{list_all, is_lock}
 use Rattle.rc_plan.proofs.access.first_locks.Given as goal
 
 abbrev pub invariant-loop-at : goal.invariant-loop-at

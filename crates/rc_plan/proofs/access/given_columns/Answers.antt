@@ -1,9 +1,5 @@
 use Rattle.std.proofs.Common.{List, ℕ, ap, length, subst, sym, ◌∙◌}
-use Rattle.std.specs.Ordering.{nat_cmp}
-use Rattle.rc_tuple.specs.ColSetLaws.{rising_range}
-use Rattle.rc_tuple.specs.RisingSet.{In, gather}
-use Rattle.rc_tuple.specs.RisingSetLaws.{gather-rising, nat_order}
-use Rattle.rc_spec.specs.Calls.{value_columns}
+use Rattle.rc_plan.proofs.Imports.{nat_cmp, rising_range, In, gather, gather-rising, nat_order, value_columns}
 use Rattle.rc_plan.proofs.access.given_columns.Goals as goal
 
 pub from_list-requires : goal.from_list-requires

@@ -1,5 +1,4 @@
-use Rattle.std.proofs.Common.{List, ℕ, subst}
-use Rattle.rc_tuple.specs.RisingSet.{In}
+use Rattle.rc_plan.proofs.Imports.{List, ℕ, subst, In}
 use Rattle.rc_plan.proofs.access.is_given.Goals as goal
 
 pub from_list-requires : goal.from_list-requires

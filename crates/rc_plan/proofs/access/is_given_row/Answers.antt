@@ -1,8 +1,5 @@
 use Rattle.std.proofs.Common.{◌≡◌, ℕ, List, ◌∙◌, sym, ap, subst}
-use Rattle.std.specs.Ordering.{nat_cmp}
-use Rattle.rc_tuple.specs.ColSetLaws.{test_from_within, within_from_test}
-use Rattle.rc_tuple.specs.RisingSet.{In, gather}
-use Rattle.rc_tuple.specs.RisingSetLaws.{gather_in, in_gather, nat_order}
+use Rattle.rc_plan.proofs.Imports.{nat_cmp, test_from_within, within_from_test, In, gather, gather_in, in_gather, nat_order}
 use Rattle.rc_plan.proofs.access.is_given_row.Goals as goal
 
 pub from_list-requires : goal.from_list-requires

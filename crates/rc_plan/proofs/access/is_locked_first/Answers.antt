@@ -1,15 +1,5 @@
 use Rattle.std.proofs.Common.{◌<◌, ◌∙◌, List, ap, drop, length, subst, sym, take}
-use Rattle.std.specs.List.{list_all, list_any}
-use Rattle.std.proofs.lemmas.Bool.{false≢true}
-use Rattle.std.proofs.lemmas.List.{take-append-drop}
-use Rattle.rc_tuple.specs.ColSet.{Within}
-use Rattle.rc_tuple.specs.RisingSet.{In}
-use Rattle.rc_tuple.specs.RisingSetLaws.{append_in_left}
-use Rattle.rc_spec.specs.Placement.{class_at}
-use Rattle.rc_spec.specs.PlacementLaws.{class_of_known}
-use Rattle.rc_plan.specs.Access.{MayBeLate, is_given_lock, is_lock_of}
-use Rattle.rc_plan.specs.PlanRules.{given_columns, pattern_columns}
-use Rattle.rc_plan.specs.declared.statement.Statement.{Statement}
+use Rattle.rc_plan.proofs.Imports.{list_all, list_any, false≢true, take-append-drop, Within, In, append_in_left, class_at, class_of_known, MayBeLate, is_given_lock, is_lock_of, given_columns, pattern_columns, Statement}
 use Rattle.rc_plan.proofs.access.is_locked_first.Goals as goal
 use Rattle.rc_plan.proofs.access.is_locked_first.Goals.{else-are_given_locks, then-are_given_locks}
 

@@ -1,11 +1,5 @@
 use Rattle.std.proofs.Common.{◌≡◌, List, ℕ, ap, subst, sym, ◌∙◌}
-use Rattle.std.specs.Ordering.{nat_cmp}
-use Rattle.rc_tuple.specs.ColSet.{is_within}
-use Rattle.rc_tuple.specs.ColSetLaws.{test_from_within, within_from_test}
-use Rattle.rc_tuple.specs.RisingSet.{In, gather}
-use Rattle.rc_spec.specs.declared.items.Class.{Class}
-use Rattle.rc_spec.specs.Placement.{class_at}
-use Rattle.rc_plan.specs.PlanRules.{pattern_columns}
+use Rattle.rc_plan.proofs.Imports.{nat_cmp, is_within, test_from_within, within_from_test, In, gather, Class, class_at, pattern_columns}
 use Rattle.rc_plan.proofs.access.is_striped.Goals as goal
 
 pub from_list-pattern-requires : goal.from_list-pattern-requires

@@ -1,6 +1,5 @@
 use Rattle.std.proofs.Common.{◌≡◌, ◌≤◌, false, drop, take, ℕ}
-use Rattle.std.specs.List.{list_any}
-use Rattle.rc_plan.specs.Access.{is_lock}
+use Rattle.rc_plan.proofs.Imports.{list_any, is_lock}
 use Rattle.rc_plan.proofs.access.late_statements.Given as goal
 
 abbrev pub invariant-loop-at : goal.invariant-loop-at

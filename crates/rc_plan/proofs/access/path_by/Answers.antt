@@ -1,11 +1,6 @@
 use Rattle.std.proofs.Common.{◌≡◌, ◌-◌, List, ℕ, ap, drop, length, sym, subst, take, ◌∙◌}
 use Rattle.std.specs.Prelude.{◌↔◌, IsTrue}
-use Rattle.std.proofs.lemmas.Bool.{false≢true}
-use Rattle.std.proofs.lemmas.List.{length-drop}
-use Rattle.std.proofs.Math.Seq.{take-length}
-use Rattle.rc_spec.specs.Decomposition.{edge_at}
-use Rattle.rc_plan.specs.Access.{AsksFor, extra_of}
-use Rattle.rc_plan.specs.Resolved.{IsResolvedEdge}
+use Rattle.rc_plan.proofs.Imports.{false≢true, length-drop, take-length, edge_at, AsksFor, extra_of, IsResolvedEdge}
 use Rattle.rc_plan.proofs.LateLemmas.{path_is_found}
 use Rattle.rc_plan.proofs.ResolvedLemmas.{at_number}
 use Rattle.rc_plan.proofs.access.path_by.Goals as goal

@@ -1,15 +1,5 @@
 use Rattle.std.proofs.Common.{◌≡◌, ℕ, ◌++◌, List, [], get_or, length, sym, ap, subst, ◌∙◌, arith}
-use Rattle.std.proofs.lemmas.Bool.{eqb-true, false≢true}
-use Rattle.std.proofs.lemmas.List.{nil_from_length}
-use Rattle.std.specs.Ordering.{nat_cmp}
-use Rattle.rc_tuple.specs.ColSet.{Within, union}
-use Rattle.rc_tuple.specs.RisingSet.{In, gather}
-use Rattle.rc_spec.specs.declared.items.OpKind.{OpKind}
-use Rattle.rc_spec.specs.declared.items.OpKind.TheVariants.{Query, Insert, Remove, Update}
-use Rattle.rc_spec.specs.Decomposition.{bound, edge_at}
-use Rattle.rc_plan.specs.Access.{extra_of}
-use Rattle.rc_plan.specs.declared.statement.ReadMode.TheVariants.{Lookup, Scan}
-use Rattle.rc_plan.specs.Resolved.{IsResolvedEdge}
+use Rattle.rc_plan.proofs.Imports.{eqb-true, false≢true, nil_from_length, nat_cmp, Within, union, In, gather, OpKind, Query, Insert, Remove, Update, bound, edge_at, extra_of, Lookup, Scan, IsResolvedEdge}
 use Rattle.rc_plan.proofs.ResolvedLemmas.{at_number}
 use Rattle.rc_plan.proofs.access.query_mode.Goals as goal
 use Rattle.rc_plan.proofs.access.query_mode.Goals.{else-spec-gt0-via-then-spec-gt0+else-is_given_row, else-spec-gt0-via-else-spec-gt0}

@@ -1,6 +1,5 @@
 use Rattle.std.proofs.Common.{sym, ◌∙◌, length}
-use Rattle.std.proofs.lemmas.Bool.{false≢true}
-use Rattle.rc_plan.specs.Resolved.{IsResolvedEdge}
+use Rattle.rc_plan.proofs.Imports.{false≢true, IsResolvedEdge}
 use Rattle.rc_plan.proofs.ResolvedLemmas.{at_number, given_is}
 use Rattle.rc_plan.proofs.access.removes_row.Goals as goal
 

@@ -1,9 +1,5 @@
 use Rattle.std.proofs.Common.{◌≡◌, ◌+◌, List, ℕ, length, ap, subst, sym, ◌∙◌, arith}
-use Rattle.std.specs.List.{range_with_len}
-use Rattle.rc_spec.specs.Placement.{class_of}
-use Rattle.rc_spec.specs.declared.spec.Spec.{Spec}
-use Rattle.rc_plan.specs.EdgeClasses.{AreEdgeCounts, classes_kept, classes_of, with_class}
-use Rattle.rc_plan.specs.EdgeClassLaws.{classes_next}
+use Rattle.rc_plan.proofs.Imports.{range_with_len, class_of, Spec, AreEdgeCounts, classes_kept, classes_of, with_class, classes_next}
 use Rattle.rc_plan.proofs.edge_classes.edge_classes.Goals as goal
 
 pub loop-edge-preserved : goal.loop-edge-preserved

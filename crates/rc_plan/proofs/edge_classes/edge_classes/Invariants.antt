@@ -1,6 +1,5 @@
 use Rattle.std.proofs.Common.{◌≡◌, ◌≤◌, length}
-use Rattle.std.specs.List.{range_with_len}
-use Rattle.rc_plan.specs.EdgeClasses.{AreEdgeCounts, classes_kept, classes_of}
+use Rattle.rc_plan.proofs.Imports.{range_with_len, AreEdgeCounts, classes_kept, classes_of}
 use Rattle.rc_plan.proofs.edge_classes.edge_classes.Given as goal
 
 abbrev pub invariant-loop-edge : goal.invariant-loop-edge

@@ -1,8 +1,5 @@
 use Rattle.std.proofs.Common.{◌≡◌, ℕ, Bool, ◌==◌, ◌≤◌, ◌+◌, true, false, filter, length, ap, add-zero, sym, ◌∙◌, arith}
-use Rattle.std.specs.List.{range_with_len}
-use Rattle.std.proofs.lemmas.Bool.{eq-eqb, ne_eqb}
-use Rattle.rc_spec.specs.Placement.{class_of}
-use Rattle.rc_plan.specs.EdgeClassLaws.{count_next, few_kept}
+use Rattle.rc_plan.proofs.Imports.{range_with_len, eq-eqb, ne_eqb, class_of, count_next, few_kept}
 use Rattle.rc_plan.proofs.edge_classes.edge_count.Goals.{then-class_of-class, else-class_of-class}
 use Rattle.rc_plan.proofs.edge_classes.edge_count.Goals as goal
 

@@ -1,6 +1,5 @@
 use Rattle.std.proofs.Common.{◌≡◌, ◌==◌, filter, length}
-use Rattle.std.specs.List.{range_with_len}
-use Rattle.rc_spec.specs.Placement.{class_of}
+use Rattle.rc_plan.proofs.Imports.{range_with_len, class_of}
 use Rattle.rc_plan.proofs.edge_classes.edge_count.Given as goal
 
 abbrev pub invariant-loop-edge : goal.invariant-loop-edge

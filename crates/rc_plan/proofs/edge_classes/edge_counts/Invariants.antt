@@ -1,6 +1,5 @@
 use Rattle.std.proofs.Common.{◌≡◌, length}
-use Rattle.rc_plan.specs.EdgeClasses.{class_edges}
-use Rattle.rc_plan.specs.Resolved.{AllBelow}
+use Rattle.rc_plan.proofs.Imports.{class_edges, AllBelow}
 use Rattle.rc_plan.proofs.edge_classes.edge_counts.Given as goal
 
 abbrev pub invariant-loop-class : goal.invariant-loop-class

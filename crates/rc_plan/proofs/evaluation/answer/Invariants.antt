@@ -1,7 +1,5 @@
 use Rattle.std.proofs.Common.{◌≡◌, take}
-use Rattle.std.specs.List.{filter}
-use Rattle.rc_spec.specs.Plain.{rows_of}
-use Rattle.rc_spec.specs.Ranges.{in_ranges}
+use Rattle.rc_plan.proofs.Imports.{filter, rows_of, in_ranges}
 use Rattle.rc_plan.proofs.evaluation.answer.Given as goal
 
 abbrev pub invariant-loop-binding : goal.invariant-loop-binding

@@ -1,6 +1,5 @@
 use Rattle.std.proofs.Common.{◌+◌, ◌∷◌, ◌++◌, [], sym, ap, ◌∙◌}
-use Rattle.rc_tuple.specs.ColSetLaws.{range_with_len_more}
-use Rattle.rc_spec.specs.PlacementLaws.{placed_total}
+use Rattle.rc_plan.proofs.Imports.{range_with_len_more, placed_total}
 use Rattle.rc_plan.proofs.evaluation.band.Goals as goal
 
 pub band_start-start-requires-clause-few : goal.band_start-start-requires-clause-few

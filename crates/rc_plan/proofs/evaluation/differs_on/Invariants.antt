@@ -1,7 +1,5 @@
 use Rattle.std.proofs.Common.{◌≡◌, ◌&&◌, take, not, false}
-use Rattle.std.specs.List.{list_any}
-use Rattle.rc_tuple.specs.Tuple.{agree_on}
-use Rattle.rc_plan.specs.Evaluation.{stays_beside}
+use Rattle.rc_plan.proofs.Imports.{list_any, agree_on, stays_beside}
 use Rattle.rc_plan.proofs.evaluation.differs_on.Given as goal
 
 abbrev pub invariant-loop-binding : goal.invariant-loop-binding

@@ -1,10 +1,5 @@
 use Rattle.std.proofs.Common.{◌≡◌, ℕ, List, not, sym, ap, subst, ◌∙◌}
-use Rattle.std.specs.Ordering.{nat_cmp}
-use Rattle.rc_tuple.specs.RisingSet.{In, gather}
-use Rattle.rc_tuple.specs.ColSetLaws.{has-gather}
-use Rattle.rc_tuple.specs.Tuple.{agree_on}
-use Rattle.rc_tuple.specs.RelationLaws.{agree_on-same}
-use Rattle.rc_plan.specs.Evaluation.{stays_beside}
+use Rattle.rc_plan.proofs.Imports.{nat_cmp, In, gather, has-gather, agree_on, agree_on-same, stays_beside}
 use Rattle.rc_plan.proofs.evaluation.stays_beside.Goals as goal
 
 pub from_list-pattern-requires : goal.from_list-pattern-requires

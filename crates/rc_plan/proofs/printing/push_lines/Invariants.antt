@@ -1,6 +1,5 @@
 use Rattle.std.proofs.Common.{◌≡◌, ◌++◌, take}
-use Rattle.std.specs.List.{flat_map}
-use Rattle.rc_plan.specs.PlanText.{statement_line}
+use Rattle.rc_plan.proofs.Imports.{flat_map, statement_line}
 use Rattle.rc_plan.proofs.printing.push_lines.Given as goal
 
 abbrev pub invariant-loop-statement : goal.invariant-loop-statement

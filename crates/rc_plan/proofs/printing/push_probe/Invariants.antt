@@ -1,6 +1,5 @@
 use Rattle.std.proofs.Common.{◌≡◌, ◌++◌, codes, take}
-use Rattle.std.specs.List.{flat_map}
-use Rattle.rc_plan.specs.PlanText.{column_text}
+use Rattle.rc_plan.proofs.Imports.{flat_map, column_text}
 use Rattle.rc_plan.proofs.printing.push_probe.Given as goal
 
 abbrev pub invariant-loop-place : goal.invariant-loop-place

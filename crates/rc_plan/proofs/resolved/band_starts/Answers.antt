@@ -1,9 +1,5 @@
 use Rattle.std.proofs.Common.{◌≡◌, length, ap, subst, sym, ◌∙◌, arith}
-use Rattle.std.proofs.lemmas.List.{length-set}
-use Rattle.rc_spec.specs.Acceptance.{IsSealed}
-use Rattle.rc_spec.specs.PlacementLaws.{placed_total}
-use Rattle.rc_spec.specs.Stripes.{band_start}
-use Rattle.rc_spec.specs.declared.spec.Spec.{Spec}
+use Rattle.rc_plan.proofs.Imports.{length-set, IsSealed, placed_total, band_start, Spec}
 use Rattle.rc_plan.proofs.ResolvedLemmas.{one_more}
 use Rattle.rc_plan.proofs.resolved.band_starts.Goals as goal
 

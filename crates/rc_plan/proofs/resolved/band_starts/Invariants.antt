@@ -1,6 +1,5 @@
 use Rattle.std.proofs.Common.{◌≡◌, length}
-use Rattle.rc_spec.specs.Stripes.{band_start}
-use Rattle.rc_plan.specs.Resolved.{AllBelow}
+use Rattle.rc_plan.proofs.Imports.{band_start, AllBelow}
 use Rattle.rc_plan.proofs.resolved.band_starts.Given as goal
 
 abbrev pub invariant-loop-class : goal.invariant-loop-class

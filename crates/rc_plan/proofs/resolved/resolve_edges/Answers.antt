@@ -1,7 +1,5 @@
 use Rattle.std.proofs.Common.{◌≡◌, length, ap, subst, ◌∙◌, arith}
-use Rattle.std.proofs.lemmas.List.{length-set}
-use Rattle.rc_spec.specs.declared.spec.Spec.{Spec}
-use Rattle.rc_plan.specs.Resolved.{IsResolvedEdge, AllBelow}
+use Rattle.rc_plan.proofs.Imports.{length-set, Spec, IsResolvedEdge, AllBelow}
 use Rattle.rc_plan.proofs.ResolvedLemmas.{one_more}
 use Rattle.rc_plan.proofs.resolved.resolve_edges.Goals as goal
 

@@ -1,9 +1,5 @@
 use Rattle.std.proofs.Common.{◌∙◌, sym, subst, ap}
-use Rattle.std.specs.Ordering.{nat_cmp}
-use Rattle.rc_tuple.specs.RisingSet.{In, gather}
-use Rattle.rc_tuple.specs.ColSet.{Within}
-use Rattle.rc_spec.specs.Calls.{all_columns}
-use Rattle.rc_query.specs.OpLaws.{below_32, columns_known}
+use Rattle.rc_query.proofs.Imports.{nat_cmp, In, gather, Within, all_columns, below_32, columns_known}
 use Rattle.rc_query.proofs.operation.pattern_of.Goals as goal
 
 pub from_list-requires : goal.from_list-requires

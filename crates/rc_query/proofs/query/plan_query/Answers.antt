@@ -1,15 +1,5 @@
 use Rattle.std.proofs.Common.{◌≡◌, ◌∙◌, ℕ, List, sym, subst, ap}
-use Rattle.std.specs.Ordering.{nat_cmp}
-use Rattle.std.proofs.lemmas.Result.{IfOk-weaker}
-use Rattle.rc_tuple.specs.RisingSet.{In, gather}
-use Rattle.rc_tuple.specs.ColSet.{Within, union}
-use Rattle.rc_tuple.specs.ColSetLaws.{union_within}
-use Rattle.rc_spec.specs.Calls.{all_columns}
-use Rattle.rc_plan.specs.declared.statement.Statement.{Statement}
-use Rattle.rc_query.specs.Laws.{IsAcceptedFor}
-use Rattle.rc_query.specs.OpLaws.{below_32, columns_known, gather_some, union_some}
-use Rattle.rc_query.specs.Planned.{Routing, ChoosesRoutes, IsPlanned, asked_columns, query_plan}
-use Rattle.rc_query.specs.PlannedLaws.{accepted_if_planned}
+use Rattle.rc_query.proofs.Imports.{nat_cmp, IfOk-weaker, In, gather, Within, union, union_within, all_columns, Statement, IsAcceptedFor, below_32, columns_known, gather_some, union_some, Routing, ChoosesRoutes, IsPlanned, asked_columns, query_plan, accepted_if_planned}
 use Rattle.rc_query.proofs.QueryLemmas.{outs_among, ranges_among, query_planned}
 use Rattle.rc_query.proofs.query.plan_query.Goals as goal
 

@@ -1,14 +1,5 @@
 use Rattle.std.proofs.Common.{◌≡◌, ◌<◌, length, sym, subst}
-use Rattle.rc_tuple.specs.RisingSet.{In}
-use Rattle.rc_tuple.specs.ColSet.{Within, union}
-use Rattle.rc_spec.specs.declared.spec.Spec.{Spec}
-use Rattle.rc_spec.specs.Acceptance.{IsSealed}
-use Rattle.rc_spec.specs.Calls.{all_columns}
-use Rattle.rc_route.specs.GoodRoutesLaws.{good_known}
-use Rattle.rc_route.specs.Paths.{IsChosenRoute}
-use Rattle.rc_query.specs.Planned.{query_plan}
-use Rattle.rc_query.specs.PlannedLaws.{route_is_chosen}
-use Rattle.rc_query.specs.ProgressLaws.{classes_known}
+use Rattle.rc_query.proofs.Imports.{In, Within, union, Spec, IsSealed, all_columns, good_known, IsChosenRoute, query_plan, route_is_chosen, classes_known}
 use Rattle.rc_query.proofs.QueryLemmas.{query_made}
 use Rattle.rc_query.proofs.query.plan_search.Goals as goal
 

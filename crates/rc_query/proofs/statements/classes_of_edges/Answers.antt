@@ -1,10 +1,5 @@
 use Rattle.std.proofs.Common.{◌<◌, ◌∙◌, arith, ap, sym, get_or, take}
-use Rattle.std.specs.Ordering.{nat_cmp}
-use Rattle.rc_tuple.specs.RisingSet.{put}
-use Rattle.rc_tuple.specs.RisingSetLaws.{get_or_in}
-use Rattle.rc_spec.specs.Placement.{class_of}
-use Rattle.rc_query.specs.Planned.{classes_of_edges}
-use Rattle.rc_query.specs.StatementsLaws.{class_below, classes_more}
+use Rattle.rc_query.proofs.Imports.{nat_cmp, put, get_or_in, class_of, classes_of_edges, class_below, classes_more}
 use Rattle.rc_query.proofs.statements.classes_of_edges.Goals as goal
 
 pub with-classes-requires : goal.with-classes-requires

@@ -1,7 +1,5 @@
 use Rattle.std.proofs.Common.{◌≡◌, ◌≤◌, ◌∙◌, ◌+◌, ◌-◌, ◌++◌, ◌∷◌, ◌<◌, ℕ, [], Some, length, arith, ap, sym, map, reverse, drop}
-use Rattle.std.specs.List.{slice_get}
-use Rattle.rc_plan.specs.declared.statement.Statement.TheVariants.{Release}
-use Rattle.rc_query.specs.StatementsLaws.{releases_more}
+use Rattle.rc_query.proofs.Imports.{slice_get, Release, releases_more}
 use Rattle.rc_query.proofs.statements.push_ending.Goals as goal
 
 back : (place : ℕ) → 0 < place → place ≡ place - 1 + 1

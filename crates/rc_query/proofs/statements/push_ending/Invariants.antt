@@ -1,6 +1,5 @@
 use Rattle.std.proofs.Common.{◌≡◌, ◌≤◌, ◌++◌, ℕ, List, length, map, reverse, drop}
-use Rattle.rc_plan.specs.declared.statement.Statement.{Statement}
-use Rattle.rc_plan.specs.declared.statement.Statement.TheVariants.{Release}
+use Rattle.rc_query.proofs.Imports.{Statement, Release}
 use Rattle.rc_query.proofs.statements.push_ending.Given as goal
 
 pub record HasReleases (classes : List ℕ) (place : ℕ) (before now : List Statement) : Type 0 where

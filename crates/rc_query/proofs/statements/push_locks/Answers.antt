@@ -1,9 +1,5 @@
 use Rattle.std.proofs.Common.{◌≡◌, ◌∙◌, ap, sym, Some, ◌++◌, ◌∷◌, [], take}
-use Rattle.std.specs.List.{slice_get}
-use Rattle.rc_tuple.specs.RisingSetLaws.{slice_get_in}
-use Rattle.rc_plan.specs.declared.statement.Statement.TheVariants.{Lock}
-use Rattle.rc_query.specs.Planned.{locks, which_where}
-use Rattle.rc_query.specs.StatementsLaws.{locks_more}
+use Rattle.rc_query.proofs.Imports.{slice_get, slice_get_in, Lock, locks, which_where, locks_more}
 use Rattle.rc_query.proofs.statements.push_locks.Goals as goal
 
 pub which_where-which-requires : goal.which_where-which-requires

@@ -1,12 +1,5 @@
 use Rattle.std.proofs.Common.{◌≡◌, ◌<◌, ◌∙◌, ◌++◌, ◌∷◌, [], ℕ, List, arith, ap, subst, get_or}
-use Rattle.rc_tuple.specs.RisingSet.{In}
-use Rattle.rc_tuple.specs.RisingSetLaws.{get_or_in}
-use Rattle.rc_tuple.specs.ColSet.{union, inter, minus}
-use Rattle.rc_tuple.specs.ColSetLaws.{in_inter, in_minus}
-use Rattle.rc_spec.specs.Placement.{class_of}
-use Rattle.rc_plan.specs.declared.statement.Statement.TheVariants.{Read}
-use Rattle.rc_query.specs.Planned.{locks, which_where, due, later}
-use Rattle.rc_query.specs.StatementsLaws.{class_below, IsReadMade, reads_more, left_more, inter_due, minus_later}
+use Rattle.rc_query.proofs.Imports.{In, get_or_in, union, inter, minus, in_inter, in_minus, class_of, Read, locks, which_where, due, later, class_below, IsReadMade, reads_more, left_more, inter_due, minus_later}
 use Rattle.rc_query.proofs.statements.push_locks_and_reads.Goals as goal
 
 pub classes_up_to-due-requires : goal.classes_up_to-due-requires

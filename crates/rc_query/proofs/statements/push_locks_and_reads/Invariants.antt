@@ -1,9 +1,5 @@
 use Rattle.std.proofs.Common.{◌≡◌, ℕ, ◌++◌, List, drop}
-use Rattle.rc_tuple.specs.ColSet.{Within}
-use Rattle.rc_spec.specs.declared.lock.Mode.{Mode}
-use Rattle.rc_spec.specs.declared.spec.Spec.{Spec}
-use Rattle.rc_plan.specs.declared.statement.Statement.{Statement}
-use Rattle.rc_query.specs.Planned.{locks_and_reads, left_after}
+use Rattle.rc_query.proofs.Imports.{Within, Mode, Spec, Statement, locks_and_reads, left_after}
 use Rattle.rc_query.proofs.statements.push_locks_and_reads.Given as goal
 
 -- what is there and what is still to come make the whole

@@ -1,8 +1,4 @@
-use Rattle.std.proofs.Common.{rules, tests}
-use Rattle.std.proofs.lemmas.Iterator.{YieldsList-from_slice}
-use Rattle.std.proofs.lemmas.Iterator.Adapters.{serves_from_places}
-use Rattle.std.proofs.lemmas.Iterator.Search.{position_from_yields_List}
-use Rattle.rc_tuple.specs.Tuple.{agree_on, cols_of}
+use Rattle.rc_rel.proofs.Imports.{rules, tests, YieldsList-from_slice, serves_from_places, position_from_yields_List, agree_on, cols_of}
 use Rattle.rc_rel.proofs.ChangeLemmas.{first_found, over_at}
 use Rattle.rc_rel.proofs.change.first_agreeing.Goals as goal
 

@@ -1,7 +1,4 @@
-use Rattle.std.proofs.Common.{rules, tests}
-use Rattle.std.proofs.lemmas.Iterator.{YieldsList-from_slice}
-use Rattle.std.proofs.lemmas.Iterator.Search.{position_from_yields_List}
-use Rattle.rc_tuple.specs.Tuple.{matches}
+use Rattle.rc_rel.proofs.Imports.{rules, tests, YieldsList-from_slice, position_from_yields_List, matches}
 use Rattle.rc_rel.proofs.ChangeLemmas.{first_found}
 use Rattle.rc_rel.proofs.change.first_match.Goals as goal
 

@@ -1,6 +1,5 @@
 use Rattle.std.proofs.Common.{◌≡◌, ◌++◌, take, drop}
-use Rattle.rc_tuple.specs.RisingSet.{put}
-use Rattle.rc_tuple.specs.Tuple.{tuple_cmp}
+use Rattle.rc_rel.proofs.Imports.{put, tuple_cmp}
 use Rattle.rc_rel.proofs.change.place_of.Given as goal
 
 abbrev pub invariant-loop-at : goal.invariant-loop-at

@@ -1,10 +1,5 @@
 use Rattle.std.proofs.Common.{◌≡◌, rules, tests, sym, subst}
-use Rattle.std.proofs.lemmas.Iterator.{YieldsList-from_slice}
-use Rattle.std.proofs.lemmas.Iterator.Adapters.{serves_from_places}
-use Rattle.rc_tuple.specs.RisingSet.{In}
-use Rattle.rc_tuple.specs.RisingSetLaws.{in_each, get_or_in}
-use Rattle.rc_tuple.specs.Tuple.{Pairs, cols_of}
-use Rattle.rc_rel.specs.Over.{AreOver}
+use Rattle.rc_rel.proofs.Imports.{YieldsList-from_slice, serves_from_places, In, in_each, get_or_in, Pairs, cols_of, AreOver}
 use Rattle.rc_rel.proofs.dependencies.breaks.Goals as goal
 
 pub any-requires-clause-callable : goal.any-requires-clause-callable

@@ -1,7 +1,4 @@
-use Rattle.std.proofs.Common.{rules, tests}
-use Rattle.std.proofs.lemmas.Iterator.{YieldsList-from_slice}
-use Rattle.std.proofs.lemmas.Iterator.Adapters.{serves_from_places}
-use Rattle.rc_tuple.specs.Tuple.{cols_of}
+use Rattle.rc_rel.proofs.Imports.{rules, tests, YieldsList-from_slice, serves_from_places, cols_of}
 use Rattle.rc_rel.proofs.ChangeLemmas.{over_at}
 use Rattle.rc_rel.proofs.dependencies.breaks_with.Goals as goal
 

@@ -1,8 +1,5 @@
 use Rattle.std.proofs.Common.{◌≡◌, Bool, true, false, ◌||◌, not, sym, ap, ◌∙◌, refl}
-use Rattle.rc_tuple.specs.RisingSetLaws.{each_in}
-use Rattle.rc_tuple.specs.Tuple.{Pairs, cols_of}
-use Rattle.rc_tuple.specs.Relation.{breaks, breaks_with}
-use Rattle.rc_tuple.specs.RelationLaws.{breaks-put, test_from_satisfies}
+use Rattle.rc_rel.proofs.Imports.{each_in, Pairs, cols_of, breaks, breaks_with, breaks-put, test_from_satisfies}
 use Rattle.rc_rel.proofs.dependencies.breaks_with_one_more.Goals as goal
 
 or_true : (b : Bool) → (b || true) ≡ true

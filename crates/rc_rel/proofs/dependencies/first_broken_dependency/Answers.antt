@@ -1,7 +1,4 @@
-use Rattle.std.proofs.Common.{sym, subst}
-use Rattle.rc_tuple.specs.RisingSet.{In}
-use Rattle.rc_tuple.specs.RisingSetLaws.{get_or_in}
-use Rattle.rc_tuple.specs.declared.dep.Dep.{Dep}
+use Rattle.rc_rel.proofs.Imports.{sym, subst, In, get_or_in, Dep}
 use Rattle.rc_rel.proofs.dependencies.first_broken_dependency.Goals as goal
 
 pub breaks_with_one_more-requires-clause-satisfied : goal.breaks_with_one_more-requires-clause-satisfied

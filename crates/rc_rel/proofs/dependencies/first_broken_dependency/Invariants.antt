@@ -1,7 +1,5 @@
 use Rattle.std.proofs.Common.{◌≡◌, ◌+◌, drop}
-use Rattle.rc_tuple.specs.RisingSet.{put}
-use Rattle.rc_tuple.specs.Tuple.{tuple_cmp}
-use Rattle.rc_spec.specs.Plain.{first_broken_dependency}
+use Rattle.rc_rel.proofs.Imports.{put, tuple_cmp, first_broken_dependency}
 use Rattle.rc_rel.proofs.dependencies.first_broken_dependency.Given as goal
 
 abbrev pub invariant-loop-at : goal.invariant-loop-at

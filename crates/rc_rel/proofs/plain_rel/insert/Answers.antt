@@ -1,11 +1,5 @@
 use Rattle.std.proofs.Common.{◌≡◌, true, false, ℕ, List, [], sym, ap, subst, ◌∙◌, None, Some}
-use Rattle.rc_tuple.specs.RisingSet.{In, put}
-use Rattle.rc_tuple.specs.Tuple.{Pairs, tuple_cmp}
-use Rattle.rc_tuple.specs.declared.dep.Dep.{Dep}
-use Rattle.rc_spec.specs.declared.call.Reply.TheVariants.{Inserted}
-use Rattle.rc_spec.specs.Plain.{Outcome, first_broken_dependency}
-use Rattle.rc_spec.specs.PlainLaws.{insert-present, insert-absent}
-use Rattle.rc_rel.specs.KnownDeps.{IsKnownToSatisfy}
+use Rattle.rc_rel.proofs.Imports.{In, put, Pairs, tuple_cmp, Dep, Inserted, Outcome, first_broken_dependency, insert-present, insert-absent, IsKnownToSatisfy}
 use Rattle.rc_rel.proofs.ChangeLemmas.{agreement_found, kept_with, kept_without}
 use Rattle.rc_rel.proofs.plain_rel.insert.Goals as goal
 

@@ -1,11 +1,5 @@
 use Rattle.std.proofs.Common.{List, [], sym, ap, subst, ◌∙◌, Some}
-use Rattle.std.specs.List.{filter}
-use Rattle.std.specs.Prelude.{remove}
-use Rattle.std.proofs.lemmas.List.{get_or_default}
-use Rattle.rc_tuple.specs.Tuple.{Pairs, matches}
-use Rattle.rc_spec.specs.declared.call.Reply.TheVariants.{Removed}
-use Rattle.rc_spec.specs.Plain.{Outcome}
-use Rattle.rc_rel.specs.Match.{IsFirstMatch}
+use Rattle.rc_rel.proofs.Imports.{filter, remove, get_or_default, Pairs, matches, Removed, Outcome, IsFirstMatch}
 use Rattle.rc_rel.proofs.ChangeLemmas.{removed_at}
 use Rattle.rc_rel.proofs.plain_rel.remove.Goals as goal
 

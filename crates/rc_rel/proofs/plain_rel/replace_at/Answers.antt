@@ -1,11 +1,5 @@
 use Rattle.std.proofs.Common.{◌≡◌, ◌∙◌, List, None, sym, ap, subst}
-use Rattle.std.specs.Prelude.{remove}
-use Rattle.rc_tuple.specs.RisingSet.{put}
-use Rattle.rc_tuple.specs.Tuple.{Pairs, tuple_cmp}
-use Rattle.rc_tuple.specs.Relation.{Satisfies}
-use Rattle.rc_tuple.specs.declared.dep.Dep.{Dep}
-use Rattle.rc_spec.specs.Plain.{first_broken_dependency}
-use Rattle.rc_rel.specs.KnownDeps.{IsKnownToSatisfy}
+use Rattle.rc_rel.proofs.Imports.{remove, put, Pairs, tuple_cmp, Satisfies, Dep, first_broken_dependency, IsKnownToSatisfy}
 use Rattle.rc_rel.proofs.ChangeLemmas.{kept_with, rising_remove, satisfies_remove}
 use Rattle.rc_rel.proofs.plain_rel.replace_at.Goals as goal
 

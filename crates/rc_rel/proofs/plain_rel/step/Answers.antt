@@ -1,7 +1,4 @@
-use Rattle.std.proofs.Common.{List, [], ap, subst}
-use Rattle.rc_tuple.specs.Tuple.{Pairs}
-use Rattle.rc_spec.specs.Plain.{Outcome}
-use Rattle.rc_rel.specs.KnownDeps.{IsKnownToSatisfy}
+use Rattle.rc_rel.proofs.Imports.{List, [], ap, subst, Pairs, Outcome, IsKnownToSatisfy}
 use Rattle.rc_rel.proofs.ChangeLemmas.{kept_after_remove}
 use Rattle.rc_rel.proofs.plain_rel.step.Goals as goal
 

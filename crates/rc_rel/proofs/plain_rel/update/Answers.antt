@@ -1,11 +1,5 @@
 use Rattle.std.proofs.Common.{◌≡◌, ◌∙◌, ℕ, List, [], get_or, Some, None, ap, subst}
-use Rattle.std.specs.List.{filter}
-use Rattle.std.specs.Ordering.{nat_cmp}
-use Rattle.std.specs.Prelude.{remove}
-use Rattle.rc_tuple.specs.RisingSet.{In, gather, put}
-use Rattle.rc_tuple.specs.Tuple.{Pairs, agree_on, tuple_cmp}
-use Rattle.rc_spec.specs.Plain.{first_broken_dependency, updated_first, updated_unless}
-use Rattle.rc_rel.specs.Match.{IsFirstAgreeing}
+use Rattle.rc_rel.proofs.Imports.{filter, nat_cmp, remove, In, gather, put, Pairs, agree_on, tuple_cmp, first_broken_dependency, updated_first, updated_unless, IsFirstAgreeing}
 use Rattle.rc_rel.proofs.ChangeLemmas.{agreeing-set, updated_at}
 use Rattle.rc_rel.proofs.RunLemmas.{same_outcome}
 use Rattle.rc_rel.proofs.plain_rel.update.Goals as goal

@@ -1,11 +1,5 @@
 use Rattle.std.proofs.Common.{ℕ, ◌+◌, ◌<◌, List, length, drop, sym, ap, subst, ◌∙◌}
-use Rattle.std.proofs.lemmas.List.{drop_more}
-use Rattle.rc_tuple.specs.Tuple.{Pairs}
-use Rattle.rc_spec.specs.declared.spec.Spec.{Spec}
-use Rattle.rc_rel.specs.declared.entry.Step.{Step}
-use Rattle.rc_rel.specs.declared.entry.Entry.{Entry}
-use Rattle.rc_rel.specs.History.{AllFit, after_steps, steps_of}
-use Rattle.rc_rel.specs.HistoryLaws.{after_entry}
+use Rattle.rc_rel.proofs.Imports.{drop_more, Pairs, Spec, Step, Entry, AllFit, after_steps, steps_of, after_entry}
 use Rattle.rc_rel.proofs.replaying.replay.Goals as goal
 
 fit_later : (spec : Spec) (entries : List Entry) (i : ℕ) (d : Entry) → i < length entries → AllFit spec (drop i entries) → AllFit spec (drop (i + 1) entries)

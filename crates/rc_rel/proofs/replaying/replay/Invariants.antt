@@ -1,7 +1,5 @@
 use Rattle.std.proofs.Common.{◌≡◌, [], drop}
-use Rattle.rc_spec.specs.Calls.{all_columns}
-use Rattle.rc_rel.specs.History.{AllFit, after_steps, steps_of}
-use Rattle.rc_rel.specs.Over.{AreOver}
+use Rattle.rc_rel.proofs.Imports.{all_columns, AllFit, after_steps, steps_of, AreOver}
 use Rattle.rc_rel.proofs.replaying.replay.Given as goal
 
 abbrev pub invariant-loop-entry : goal.invariant-loop-entry

@@ -1,7 +1,5 @@
 use Rattle.std.proofs.Common.{◌≡◌, drop}
-use Rattle.rc_spec.specs.Calls.{all_columns}
-use Rattle.rc_rel.specs.History.{StepsFit, after_steps}
-use Rattle.rc_rel.specs.Over.{AreOver}
+use Rattle.rc_rel.proofs.Imports.{all_columns, StepsFit, after_steps, AreOver}
 use Rattle.rc_rel.proofs.replaying.run_steps.Given as goal
 
 abbrev pub invariant-loop-step : goal.invariant-loop-step

@@ -1,7 +1,5 @@
 use Rattle.std.proofs.Common.{◌≡◌, take}
-use Rattle.std.specs.List.{filter}
-use Rattle.rc_spec.specs.Ranges.{is_asked}
-use Rattle.rc_spec.specs.Plain.{rows_of}
+use Rattle.rc_rel.proofs.Imports.{filter, is_asked, rows_of}
 use Rattle.rc_rel.proofs.scan.query.Given as goal
 
 abbrev pub invariant-loop-tuple : goal.invariant-loop-tuple

@@ -1,6 +1,5 @@
 use Rattle.std.proofs.Common.{◌≤◌, ◌<◌, length, arith, ap, sym, subst}
-use Rattle.rc_tuple.specs.RisingSet.{In}
-use Rattle.rc_spec.specs.declared.spec.Spec.{Spec}
+use Rattle.rc_route.proofs.Imports.{In, Spec}
 use Rattle.rc_route.proofs.BestLemmas.{path_edges, path_few}
 use Rattle.rc_route.proofs.costs.cost.Goals as goal
 

@@ -1,8 +1,5 @@
 use Rattle.std.proofs.Common.{◌≤◌, ◌*◌, ℕ, List, length, take, arith}
-use Rattle.std.proofs.lemmas.List.{length-take}
-use Rattle.rc_tuple.specs.RisingSetLaws.{get_or_in}
-use Rattle.rc_route.specs.Paths.{cost}
-use Rattle.rc_route.specs.PathsLaws.{cost_few}
+use Rattle.rc_route.proofs.Imports.{length-take, get_or_in, cost, cost_few}
 use Rattle.rc_route.proofs.EdgeLemmas.{take_in}
 use Rattle.rc_route.proofs.costs.cost_of.Goals as goal
 

@@ -1,8 +1,5 @@
 use Rattle.std.proofs.Common.{◌≡◌, ◌<◌, length, arith, sym, ap, ◌∙◌}
-use Rattle.rc_spec.specs.declared.items.Class.{Class}
-use Rattle.rc_spec.specs.declared.items.Edge.{Edge}
-use Rattle.rc_spec.specs.Placement.{class_at, class_of}
-use Rattle.rc_spec.specs.PlacementLaws.{class_of_known}
+use Rattle.rc_route.proofs.Imports.{Class, Edge, class_at, class_of, class_of_known}
 use Rattle.rc_route.proofs.EdgeLemmas.{lock_all}
 use Rattle.rc_route.proofs.costs.lock_cost.Goals as goal
 

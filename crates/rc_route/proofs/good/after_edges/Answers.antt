@@ -1,9 +1,5 @@
 use Rattle.std.proofs.Common.{◌≡◌, ◌<◌, ◌≤◌, ℕ, List, ◌+◌, ◌++◌, length, drop, get_or, arith, sym, ap, subst, ◌∙◌, ◌↔◌}
-use Rattle.rc_tuple.specs.ColSet.{union, with_column}
-use Rattle.rc_spec.specs.declared.items.Edge.{Edge}
-use Rattle.rc_spec.specs.Decomposition.{bound, edge_at}
-use Rattle.rc_spec.specs.InRange.{IsEdgeAmong}
-use Rattle.rc_route.specs.GoodRoutes.{IsStep, IsGoodFrom}
+use Rattle.rc_route.proofs.Imports.{union, with_column, Edge, bound, edge_at, IsEdgeAmong, IsStep, IsGoodFrom}
 use Rattle.rc_route.proofs.GoodLemmas.{good_more, both_ways}
 use Rattle.rc_route.proofs.good.after_edges.Goals as goal
 

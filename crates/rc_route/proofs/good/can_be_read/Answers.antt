@@ -1,8 +1,5 @@
 use Rattle.std.proofs.Common.{inl, inr, refl, sym, ◌∙◌}
-use Rattle.std.proofs.lemmas.Bool.{false≢true, eq-eqb}
-use Rattle.rc_tuple.specs.RisingSetLaws.{in_has, has_in}
-use Rattle.rc_spec.specs.Decomposition.{bound}
-use Rattle.rc_fd.specs.FollowsLaws.{lossless_at}
+use Rattle.rc_route.proofs.Imports.{false≢true, eq-eqb, in_has, has_in, bound, lossless_at}
 use Rattle.rc_route.proofs.good.can_be_read.Goals as goal
 use Rattle.rc_route.proofs.good.can_be_read.Goals.{then-edge-eq0, else-edge-eq0}
 

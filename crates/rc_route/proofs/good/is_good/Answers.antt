@@ -1,8 +1,5 @@
 use Rattle.std.proofs.Common.{[], ◌++◌, sym, subst, ◌∙◌}
-use Rattle.std.proofs.lemmas.List.{append-nil}
-use Rattle.std.proofs.lemmas.Bool.{false≢true}
-use Rattle.rc_tuple.specs.ColSetLaws.{within_from_test, test_from_within}
-use Rattle.rc_route.specs.GoodRoutes.{IsGoodFrom}
+use Rattle.rc_route.proofs.Imports.{append-nil, false≢true, within_from_test, test_from_within, IsGoodFrom}
 use Rattle.rc_route.proofs.good.is_good.Goals as goal
 
 pub returns-in_default-after_edges : goal.returns-in_default-after_edges

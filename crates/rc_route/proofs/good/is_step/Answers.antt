@@ -1,7 +1,5 @@
 use Rattle.std.proofs.Common.{◌≡◌, ◌<◌, ℕ, length, arith, ap}
-use Rattle.rc_spec.specs.declared.items.Edge.{Edge}
-use Rattle.rc_spec.specs.Decomposition.{edge_at}
-use Rattle.rc_spec.specs.DecompositionLaws.{edge_at_found}
+use Rattle.rc_route.proofs.Imports.{Edge, edge_at, edge_at_found}
 use Rattle.rc_route.proofs.GoodLemmas.{step_found}
 use Rattle.rc_route.proofs.good.is_step.Goals as goal
 

@@ -1,13 +1,5 @@
 use Rattle.std.proofs.Common.{◌≡◌, ◌<◌, ℕ, List, [], length, arith, sym, subst, ◌∙◌, refl}
-use Rattle.rc_tuple.specs.RisingSet.{In}
-use Rattle.rc_spec.specs.declared.spec.Spec.{Spec}
-use Rattle.rc_spec.specs.Acceptance.{IsSealed}
-use Rattle.rc_spec.specs.DecompositionLaws.{at_found}
-use Rattle.rc_spec.specs.Order.{IsTopologicalOrder}
-use Rattle.rc_route.specs.Paths.{IsLeastPath, SomeNodeBinds}
-use Rattle.rc_route.specs.PathsLaws.{paths_are_good}
-use Rattle.rc_route.specs.Search.{AreLeastPaths, IsFirstLeast, Binds, cost_to, path_at}
-use Rattle.rc_route.specs.SearchLaws.{found_path}
+use Rattle.rc_route.proofs.Imports.{In, Spec, IsSealed, at_found, IsTopologicalOrder, IsLeastPath, SomeNodeBinds, paths_are_good, AreLeastPaths, IsFirstLeast, Binds, cost_to, path_at, found_path}
 use Rattle.rc_route.proofs.BestLemmas.{least_begin, least_to}
 use Rattle.rc_route.proofs.least.least_path.Goals as goal
 

@@ -1,11 +1,5 @@
 use Rattle.std.proofs.Common.{◌≡◌, ◌≤◌, ◌+◌, [], length, arith, ap, sym, subst, ◌∙◌, refl}
-use Rattle.rc_tuple.specs.RisingSet.{In}
-use Rattle.rc_tuple.specs.RisingSetLaws.{get_or_in}
-use Rattle.rc_spec.specs.declared.items.Edge.{Edge}
-use Rattle.rc_spec.specs.Decomposition.{edge_at}
-use Rattle.rc_spec.specs.DecompositionLaws.{at_found}
-use Rattle.rc_route.specs.Paths.{IsPathFromRoot, cost}
-use Rattle.rc_route.specs.Search.{path_at}
+use Rattle.rc_route.proofs.Imports.{In, get_or_in, Edge, edge_at, at_found, IsPathFromRoot, cost, path_at}
 use Rattle.rc_route.proofs.BestLemmas.{path_edges, path_few}
 use Rattle.rc_route.proofs.search.cost_by.Goals as goal
 

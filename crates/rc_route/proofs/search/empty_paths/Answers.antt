@@ -1,6 +1,5 @@
 use Rattle.std.proofs.Common.{◌≡◌, List, ℕ, [], ◌∷◌, length, sym, subst, arith, ap, length-append}
-use Rattle.rc_spec.specs.First.{EachHolds}
-use Rattle.rc_spec.specs.FirstLaws.{each_append, each_one}
+use Rattle.rc_route.proofs.Imports.{EachHolds, each_append, each_one}
 use Rattle.rc_route.proofs.search.empty_paths.Goals as goal
 
 pub loop-preserved : goal.loop-preserved

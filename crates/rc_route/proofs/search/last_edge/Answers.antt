@@ -1,6 +1,5 @@
 use Rattle.std.proofs.Common.{◌<◌, ◌+◌, ℕ, Some, length, arith, ap, sym, subst, ◌∙◌}
-use Rattle.rc_spec.specs.declared.items.Edge.{Edge}
-use Rattle.rc_route.specs.Search.{EndsAt, cost_by}
+use Rattle.rc_route.proofs.Imports.{Edge, EndsAt, cost_by}
 use Rattle.rc_route.proofs.BestLemmas.{IsBestSoFar, best_passes, best_takes, best_keeps}
 use Rattle.rc_route.proofs.search.last_edge.Goals as goal
 use Rattle.rc_route.proofs.search.last_edge.Goals.{then-edge-node+then-price-lowest, then-edge-node+else-price-lowest, else-edge-node}

@@ -1,12 +1,5 @@
 use Rattle.std.proofs.Common.{◌≡◌, ◌<◌, ◌≤◌, ◌+◌, ℕ, [], Some, length, arith, ap, sym, subst, ◌∙◌, refl}
-use Rattle.std.proofs.lemmas.Bool.{false≢true}
-use Rattle.rc_tuple.specs.RisingSet.{In}
-use Rattle.rc_tuple.specs.RisingSetLaws.{get_or_in}
-use Rattle.rc_tuple.specs.ColSet.{Within}
-use Rattle.rc_tuple.specs.ColSetLaws.{within_from_test, test_from_within}
-use Rattle.rc_spec.specs.DecompositionLaws.{at_found}
-use Rattle.rc_route.specs.Paths.{IsPathFromRoot, cost}
-use Rattle.rc_route.specs.Search.{Binds, cost_to, path_at}
+use Rattle.rc_route.proofs.Imports.{false≢true, In, get_or_in, Within, within_from_test, test_from_within, at_found, IsPathFromRoot, cost, Binds, cost_to, path_at}
 use Rattle.rc_route.proofs.BestLemmas.{IsBestSoFar, best_passes, best_takes, best_keeps, path_edges, path_few}
 use Rattle.rc_route.proofs.search.last_node.Goals as goal
 use Rattle.rc_route.proofs.search.last_node.Goals.{then-within+then-price-least, then-within+else-price-least, else-within}

@@ -1,7 +1,5 @@
 use Rattle.std.proofs.Common.{◌≡◌, ◌<◌, ◌+◌, ℕ, List, [], ◌∷◌, ◌++◌, length, get_or, take, arith, ap, sym, subst, ◌∙◌}
-use Rattle.std.proofs.Math.ListN.{set}
-use Rattle.rc_spec.specs.Decomposition.{edge_at}
-use Rattle.rc_route.specs.Search.{IsFirstLeast, EndsAt, cost_by, path_at}
+use Rattle.rc_route.proofs.Imports.{set, edge_at, IsFirstLeast, EndsAt, cost_by, path_at}
 use Rattle.rc_route.proofs.BestLemmas.{IsTable, table_start, table_root, table_step}
 use Rattle.rc_route.proofs.search.least_paths.Goals as goal
 use Rattle.rc_route.proofs.search.least_paths.Goals.{in-Some+in_ok-paths-2, in_default}

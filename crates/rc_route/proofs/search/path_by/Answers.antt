@@ -1,8 +1,5 @@
 use Rattle.std.proofs.Common.{◌≡◌, [], ◌∷◌, ◌++◌, arith, ap, sym, ◌∙◌, refl}
-use Rattle.rc_spec.specs.declared.items.Edge.{Edge}
-use Rattle.rc_spec.specs.Decomposition.{edge_at}
-use Rattle.rc_spec.specs.DecompositionLaws.{at_found}
-use Rattle.rc_route.specs.Search.{path_at}
+use Rattle.rc_route.proofs.Imports.{Edge, edge_at, at_found, path_at}
 use Rattle.rc_route.proofs.search.path_by.Goals as goal
 
 pub bounds-paths-edge : goal.bounds-paths-edge

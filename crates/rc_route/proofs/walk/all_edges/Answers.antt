@@ -1,6 +1,5 @@
 use Rattle.std.proofs.Common.{◌≡◌, ℕ, ◌+◌, ◌++◌, ◌∷◌, [], sym, ap, ◌∙◌, arith}
-use Rattle.std.specs.List.{range_with_len}
-use Rattle.rc_tuple.specs.ColSetLaws.{range_with_len_more}
+use Rattle.rc_route.proofs.Imports.{range_with_len, range_with_len_more}
 use Rattle.rc_route.proofs.walk.all_edges.Goals as goal
 
 from_none : (n : ℕ) → n ≡ 0 + n

@@ -1,6 +1,5 @@
 use Rattle.std.proofs.Common.{◌≡◌, ◌<◌, ◌-◌, ◌++◌, ℕ, suc, List, length, take, drop, arith, ap, sym, subst, ◌∙◌}
-use Rattle.std.proofs.lemmas.Bool.{true≢false, false≢true}
-use Rattle.rc_route.specs.GoodRoutes.{IsGoodRoute}
+use Rattle.rc_route.proofs.Imports.{true≢false, false≢true, IsGoodRoute}
 use Rattle.rc_route.proofs.PassLemmas.{IsLeftAt, left_out, left_kept, one_up, pieces, shorter, fewer_now}
 use Rattle.rc_route.proofs.walk.leave_out.Goals as goal
 

@@ -1,6 +1,5 @@
 use Rattle.std.proofs.Common.{◌≡◌, ◌<◌, ◌≤◌, List, ℕ, length, true, false}
-use Rattle.rc_route.specs.GoodRoutes.{IsGoodRoute}
-use Rattle.rc_route.specs.PrunedWalk.{IsPass}
+use Rattle.rc_route.proofs.Imports.{IsGoodRoute, IsPass}
 use Rattle.rc_route.proofs.PassLemmas.{IsLeftAt}
 use Rattle.rc_route.proofs.walk.leave_out.Given as goal
 

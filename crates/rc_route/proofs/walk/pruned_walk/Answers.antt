@@ -1,8 +1,4 @@
-use Rattle.std.proofs.Common.{ℕ, suc, List, sym, subst}
-use Rattle.rc_spec.specs.declared.spec.Spec.{Spec}
-use Rattle.rc_route.specs.GoodRoutes.{IsGoodRoute, all_edges}
-use Rattle.rc_route.specs.PrunedWalk.{IsPass, IsPrunedWalk}
-use Rattle.rc_route.specs.PrunedWalkLaws.{passes_more, walks_are_good}
+use Rattle.rc_route.proofs.Imports.{ℕ, suc, List, sym, subst, Spec, IsGoodRoute, all_edges, IsPass, IsPrunedWalk, passes_more, walks_are_good}
 use Rattle.rc_route.proofs.walk.pruned_walk.Goals as goal
 
 pub loop-fewer-preserved : goal.loop-fewer-preserved

@@ -1,6 +1,5 @@
 use Rattle.std.proofs.Common.{◌≡◌, ℕ, ◌+◌, ◌*◌, length, false, if◌then◌else◌}
-use Rattle.rc_route.specs.GoodRoutes.{IsGoodRoute, all_edges}
-use Rattle.rc_route.specs.PrunedWalk.{ArePasses, IsPass}
+use Rattle.rc_route.proofs.Imports.{IsGoodRoute, all_edges, ArePasses, IsPass}
 use Rattle.rc_route.proofs.walk.pruned_walk.Given as goal
 
 abbrev pub invariant-loop-fewer : goal.invariant-loop-fewer

@@ -1,6 +1,5 @@
 use Rattle.std.proofs.Common.{◌≡◌, []}
-use Rattle.std.specs.Prelude.{replicate}
-use Rattle.rc_row.specs.Law.{kept_of}
+use Rattle.rc_row.proofs.Imports.{replicate, kept_of}
 use Rattle.rc_row.proofs.build.empty_fragments.Given as goal
 
 abbrev pub invariant-loop : goal.invariant-loop

@@ -1,7 +1,5 @@
 use Rattle.std.proofs.Common.{◌≡◌, ◌+◌, ◌*◌, ◌≤◌, ◌++◌, length}
-use Rattle.std.specs.List.{flat_map}
-use Rattle.std.specs.Vec.Iter.{into_iter_items, into_iter_len}
-use Rattle.rc_row.specs.Rooms.{spaced}
+use Rattle.rc_row.proofs.Imports.{flat_map, into_iter_items, into_iter_len, spaced}
 use Rattle.rc_row.proofs.build.put_home.Given as goal
 
 -- the slots of those that were put home, and of those that are left

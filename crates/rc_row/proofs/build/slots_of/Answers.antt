@@ -1,8 +1,5 @@
 use Rattle.std.proofs.Common.{arith, List, length, sym, ap, ◌∙◌}
-use Rattle.std.proofs.lemmas.List.{append-nil}
-use Rattle.std.specs.List.{flat_map}
-use Rattle.rc_row.specs.Law.{Slot}
-use Rattle.rc_row.specs.Rooms.{spaced}
+use Rattle.rc_row.proofs.Imports.{append-nil, flat_map, Slot, spaced}
 use Rattle.rc_row.proofs.OpeningLemmas.{spaced_count}
 use Rattle.rc_row.proofs.build.slots_of.Goals as goal
 

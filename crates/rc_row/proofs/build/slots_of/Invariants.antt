@@ -1,8 +1,5 @@
 use Rattle.std.proofs.Common.{◌≡◌, ◌+◌, ◌*◌, ◌++◌, ◌≤◌, length}
-use Rattle.std.specs.Prelude.{replicate}
-use Rattle.std.specs.List.{flat_map}
-use Rattle.rc_row.specs.declared.slot.Slot.TheVariants.{Empty}
-use Rattle.rc_row.specs.Rooms.{spaced}
+use Rattle.rc_row.proofs.Imports.{replicate, flat_map, Empty, spaced}
 use Rattle.rc_row.proofs.build.slots_of.Given as goal
 
 abbrev pub invariant-loop : goal.invariant-loop

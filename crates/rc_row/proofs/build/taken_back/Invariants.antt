@@ -1,7 +1,5 @@
 use Rattle.std.proofs.Common.{◌≡◌, ◌+◌, ◌≤◌, ◌++◌, length}
-use Rattle.std.specs.List.{filter_map}
-use Rattle.std.specs.Vec.Iter.{into_iter_items, into_iter_len}
-use Rattle.rc_row.specs.Slots.{kept_at}
+use Rattle.rc_row.proofs.Imports.{filter_map, into_iter_items, into_iter_len, kept_at}
 use Rattle.rc_row.proofs.build.taken_back.Given as goal
 
 -- those that were taken out, and those of the slots that are left

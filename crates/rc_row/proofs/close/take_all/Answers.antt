@@ -1,13 +1,7 @@
 use Rattle.std.proofs.Common.{arith, ◌≡◌, ◌*◌, ◌+◌, ◌/◌, ◌<◌, ℕ, Bool, false, List, [], ◌∷◌, ◌++◌, length, get_or, set, sym, ap, ◌∙◌, inl, inr, length-append}
-use Rattle.std.proofs.lemmas.Bool.{cases_eq, false≢true}
-use Rattle.std.proofs.lemmas.List.{get_or-set_same, get_or-set_other}
-use Rattle.std.specs.List.{slice_get}
-use Rattle.std.specs.Slots.{slots_items, slots_filled}
-use Rattle.std.specs.Slots.Ownership.{Filled}
+use Rattle.rc_row.proofs.Imports.{cases_eq, false≢true, get_or-set_same, get_or-set_other, slice_get, slots_items, slots_filled, Filled, KeptRows, Slot, kept_in, slot_place}
 use mathlib.Core.Option.{some-injective}
 use lib.ListN.{get_elem?}
-use Rattle.rc_fragment.specs.Keep.{KeptRows}
-use Rattle.rc_row.specs.Law.{Slot, kept_in, slot_place}
 use Rattle.rc_row.proofs.ClosingLemmas.{taken_more}
 use Rattle.rc_row.proofs.close.take_all.Goals as goal
 

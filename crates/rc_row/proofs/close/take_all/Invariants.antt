@@ -1,11 +1,7 @@
 use Rattle.std.proofs.Common.{◌≡◌, ℕ, ◌+◌, ◌*◌, ◌<◌, ◌≤◌, Bool, false, get_or, length, Some}
 use mathlib.Core.Option.{some}
 use lib.ListN.{get_elem?}
-use Rattle.std.specs.List.{slice_get}
-use Rattle.std.specs.Slots.{slots_items, slots_filled, slots_len}
-use Rattle.std.specs.Slots.Ownership.{Filled}
-use Rattle.rc_fragment.specs.Keep.{KeptRows}
-use Rattle.rc_row.specs.Law.{kept_in, slot_place}
+use Rattle.rc_row.proofs.Imports.{slice_get, slots_items, slots_filled, slots_len, Filled, KeptRows, kept_in, slot_place}
 use Rattle.rc_row.proofs.close.take_all.Given as goal
 
 abbrev pub invariant-loop-i : goal.invariant-loop-i

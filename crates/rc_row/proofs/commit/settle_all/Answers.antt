@@ -1,6 +1,5 @@
 use Rattle.std.proofs.Common.{List, get_or, set, ap, ◌∙◌, arith}
-use Rattle.rc_fragment.specs.FragmentRows.{FragmentRows, settled}
-use Rattle.rc_row.specs.HeldRows.{HeldRows}
+use Rattle.rc_row.proofs.Imports.{FragmentRows, settled, HeldRows}
 use Rattle.rc_row.proofs.ChangeLemmas.{here_with, all_more}
 use Rattle.rc_row.proofs.commit.settle_all.Goals as goal
 

@@ -1,6 +1,5 @@
 use Rattle.std.proofs.Common.{◌≡◌, ◌++◌, take, drop}
-use Rattle.rc_fragment.specs.FragmentRows.{settled}
-use Rattle.rc_row.specs.Passes.{all_with}
+use Rattle.rc_row.proofs.Imports.{settled, all_with}
 use Rattle.rc_row.proofs.commit.settle_all.Given as goal
 
 abbrev pub invariant-loop-i : goal.invariant-loop-i

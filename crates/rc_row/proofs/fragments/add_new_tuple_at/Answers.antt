@@ -1,9 +1,5 @@
 use Rattle.std.proofs.Common.{◌≡◌, ◌≤◌, sym, subst, ◌∙◌}
-use Rattle.std.proofs.lemmas.List.Elements.{All-get_or}
-use Rattle.std.proofs.lemmas.Result.{on_err_weaker, on_ok_weaker}
-use Rattle.rc_fragment.specs.Tuples.{ArePartlyAdded, changed_by, changes_of_class, with_tuple}
-use Rattle.rc_row.specs.HeldRows.{HeldRows}
-use Rattle.rc_row.specs.Passes.{CanAddNewTo, HasNoRowIn, HasRowIn}
+use Rattle.rc_row.proofs.Imports.{All-get_or, on_err_weaker, on_ok_weaker, ArePartlyAdded, changed_by, changes_of_class, with_tuple, HeldRows, CanAddNewTo, HasNoRowIn, HasRowIn}
 use Rattle.rc_row.proofs.TurnLemmas.{place_inside, read_here}
 use Rattle.rc_row.proofs.ChangeLemmas.{of_held_here, same_held, set_here}
 use Rattle.rc_row.proofs.fragments.add_new_tuple_at.Goals as goal

@@ -1,7 +1,5 @@
 use Rattle.std.proofs.Common.{◌≡◌, ◌≤◌, subst, ◌∙◌}
-use Rattle.std.proofs.lemmas.Result.{on_err_weaker, on_ok_weaker}
-use Rattle.rc_fragment.specs.Tuples.{ArePartlyAdded, changed_by, changes_of_class, with_tuple}
-use Rattle.rc_row.specs.HeldRows.{HeldRows}
+use Rattle.rc_row.proofs.Imports.{on_err_weaker, on_ok_weaker, ArePartlyAdded, changed_by, changes_of_class, with_tuple, HeldRows}
 use Rattle.rc_row.proofs.TurnLemmas.{read_here}
 use Rattle.rc_row.proofs.ChangeLemmas.{of_held_here, set_here}
 use Rattle.rc_row.proofs.fragments.add_tuple_at.Goals as goal

@@ -1,6 +1,5 @@
 use Rattle.std.proofs.Common.{◌≡◌, ◌∙◌}
-use Rattle.std.proofs.lemmas.Result.{on_ok_weaker}
-use Rattle.rc_fragment.specs.FragmentRows.{with_promise}
+use Rattle.rc_row.proofs.Imports.{on_ok_weaker, with_promise}
 use Rattle.rc_row.proofs.TurnLemmas.{read_here}
 use Rattle.rc_row.proofs.ChangeLemmas.{set_here}
 use Rattle.rc_row.proofs.fragments.own_at.Goals as goal

@@ -1,6 +1,5 @@
 use Rattle.std.proofs.Common.{List, get_or, set, ap, ◌∙◌, arith}
-use Rattle.rc_fragment.specs.FragmentRows.{FragmentRows, rolled_back}
-use Rattle.rc_row.specs.HeldRows.{HeldRows}
+use Rattle.rc_row.proofs.Imports.{FragmentRows, rolled_back, HeldRows}
 use Rattle.rc_row.proofs.ChangeLemmas.{here_with, all_more}
 use Rattle.rc_row.proofs.fragments.revert_all.Goals as goal
 

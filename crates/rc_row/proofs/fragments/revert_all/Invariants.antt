@@ -1,6 +1,5 @@
 use Rattle.std.proofs.Common.{◌≡◌, ◌++◌, take, drop}
-use Rattle.rc_fragment.specs.FragmentRows.{rolled_back}
-use Rattle.rc_row.specs.Passes.{all_with}
+use Rattle.rc_row.proofs.Imports.{rolled_back, all_with}
 use Rattle.rc_row.proofs.fragments.revert_all.Given as goal
 
 abbrev pub invariant-loop-i : goal.invariant-loop-i

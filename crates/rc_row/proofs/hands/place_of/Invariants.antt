@@ -1,7 +1,4 @@
-use Rattle.std.proofs.Common.{drop}
-use Rattle.rc_tuple.specs.RisingSet.{In}
-use Rattle.rc_core.specs.State.{stripes_in}
-use Rattle.rc_row.specs.Passes.{holds_taken}
+use Rattle.rc_row.proofs.Imports.{drop, In, stripes_in, holds_taken}
 use Rattle.rc_row.proofs.hands.place_of.Given as goal
 
 abbrev pub invariant-loop-i : goal.invariant-loop-i

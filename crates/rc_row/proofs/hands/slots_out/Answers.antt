@@ -1,6 +1,5 @@
 use Rattle.std.proofs.Common.{length, ap, ◌∙◌, arith}
-use Rattle.rc_spec.specs.declared.lock.Mode.{Mode}
-use Rattle.rc_row.specs.Own.{hand_out}
+use Rattle.rc_row.proofs.Imports.{Mode, hand_out}
 use Rattle.rc_row.proofs.TurnLemmas.{hands_more, length-written}
 use Rattle.rc_row.proofs.hands.slots_out.Goals as goal
 use Rattle.rc_row.proofs.hands.slots_out.Goals.{in-Exclusive, in-Shared}

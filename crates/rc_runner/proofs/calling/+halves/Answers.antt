@@ -1,6 +1,4 @@
-use Rattle.rc_runner.specs.CallersLaws.{both_made}
-use Rattle.rc_runner.specs.Running.{number_of, stand_of}
-use Rattle.rc_runner.specs.Shares.{share_of}
+use Rattle.rc_runner.proofs.Imports.{both_made, number_of, stand_of, share_of}
 use Rattle.rc_runner.proofs.calling.+halves.Goals as goal
 
 pub make_shares-returns-clause-made : goal.make_shares-returns-clause-made

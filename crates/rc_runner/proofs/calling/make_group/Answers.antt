@@ -1,8 +1,4 @@
-use Rattle.std.proofs.Common.{subst, sym}
-use Rattle.std.specs.Prelude.{OnOk, Result}
-use Rattle.rc_runner.specs.Rounds.{HasCalled}
-use Rattle.rc_runner.specs.Running.{stand_of}
-use Rattle.rc_runner.specs.RunningLaws.{group_called_so}
+use Rattle.rc_runner.proofs.Imports.{subst, sym, OnOk, Result, HasCalled, stand_of, group_called_so}
 use Rattle.rc_runner.proofs.calling.make_group.Goals.{in-Ok, in-Err-Memory}
 use Rattle.rc_runner.proofs.calling.make_group.Goals as goal
 

@@ -1,11 +1,4 @@
-use Rattle.std.proofs.Common.{ℕ, List, subst, sym}
-use Rattle.std.specs.Prelude.{OnOk}
-use Rattle.rc_spec.specs.declared.call.Call.{Call}
-use Rattle.rc_row.specs.Passes.{spec_of}
-use Rattle.rc_runner.specs.Rounds.{MadeTurns}
-use Rattle.rc_runner.specs.Running.{number_of, stand_of}
-use Rattle.rc_runner.specs.RunningLaws.{may_make_share, shares_fit}
-use Rattle.rc_runner.specs.Shares.{AreShared}
+use Rattle.rc_runner.proofs.Imports.{ℕ, List, subst, sym, OnOk, Call, spec_of, MadeTurns, number_of, stand_of, may_make_share, shares_fit, AreShared}
 use Rattle.rc_runner.proofs.calling.make_round.Goals as goal
 
 pub make_shares-requires-clause-may : goal.make_shares-requires-clause-may

@@ -1,11 +1,4 @@
-use Rattle.std.proofs.Common.{All, subst, sym}
-use Rattle.std.specs.Prelude.{OnOk}
-use Rattle.rc_runner.specs.Shares.{TurnFits}
-use Rattle.rc_row.specs.Passes.{spec_of}
-use Rattle.rc_runner.specs.Rounds.{HasGrown}
-use Rattle.rc_runner.specs.RoundLaws.{growth_starts}
-use Rattle.rc_runner.specs.Running.{number_of, stand_of}
-use Rattle.rc_runner.specs.SharesLaws.{share_found, share_past}
+use Rattle.rc_runner.proofs.Imports.{All, subst, sym, OnOk, TurnFits, spec_of, HasGrown, growth_starts, number_of, stand_of, share_found, share_past}
 use Rattle.rc_runner.proofs.calling.make_share.Goals as goal
 
 pub make_turns-requires-clause-fit : goal.make_turns-requires-clause-fit

@@ -1,9 +1,5 @@
 use Rattle.std.proofs.Common.{◌∙◌, refl}
-use Rattle.rc_row.specs.Passes.{spec_of}
-use Rattle.rc_runner.specs.RoundLaws.{growth_starts}
-use Rattle.rc_runner.specs.Running.{stand_of}
-use Rattle.rc_runner.specs.RunningLaws.{may_one}
-use Rattle.rc_runner.specs.SharesLaws.{turn_taken, lent_fits}
+use Rattle.rc_runner.proofs.Imports.{spec_of, growth_starts, stand_of, may_one, turn_taken, lent_fits}
 use Rattle.rc_runner.proofs.calling.make_turns.Goals as goal
 
 pub loop-turn-init : goal.loop-turn-init

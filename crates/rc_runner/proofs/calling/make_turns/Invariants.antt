@@ -1,8 +1,5 @@
 use Rattle.std.proofs.Common.{◌≡◌, take}
-use Rattle.rc_store.specs.Store.{IsFree}
-use Rattle.rc_runner.specs.Rounds.{HasGrown}
-use Rattle.rc_runner.specs.Running.{number_of, stand_of}
-use Rattle.rc_runner.specs.Shares.{turns_in}
+use Rattle.rc_runner.proofs.Imports.{IsFree, HasGrown, number_of, stand_of, turns_in}
 use Rattle.rc_runner.proofs.calling.make_turns.Given as goal
 
 abbrev pub invariant-loop-turn : goal.invariant-loop-turn

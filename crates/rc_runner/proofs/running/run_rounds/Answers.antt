@@ -1,7 +1,5 @@
 use Rattle.std.proofs.Common.{◌≡◌, ◌∙◌, get_or, refl, subst, sym}
-use Rattle.rc_runner.specs.CallersLaws.{none_made, round_taken}
-use Rattle.rc_runner.specs.Running.{number_of, stand_of}
-use Rattle.rc_runner.specs.RunningLaws.{may_make_round}
+use Rattle.rc_runner.proofs.Imports.{none_made, round_taken, number_of, stand_of, may_make_round}
 use Rattle.rc_runner.proofs.running.run_rounds.Goals as goal
 
 pub loop-round-init : goal.loop-round-init

@@ -1,7 +1,5 @@
 use Rattle.std.proofs.Common.{◌≡◌, All, take}
-use Rattle.rc_runner.specs.Rounds.{HaveMade}
-use Rattle.rc_store.specs.Store.{IsFree}
-use Rattle.rc_runner.specs.Running.{numbers_of, stands_of}
+use Rattle.rc_runner.proofs.Imports.{HaveMade, IsFree, numbers_of, stands_of}
 use Rattle.rc_runner.proofs.running.run_rounds.Given as goal
 
 abbrev pub invariant-loop-round : goal.invariant-loop-round

@@ -1,8 +1,5 @@
 use Rattle.std.proofs.Common.{◌≡◌, ◌∙◌, ap, drop, length, subst, sum_by, sym, arith}
-use Rattle.std.specs.List.{range_with_len}
-use Rattle.rc_runner.specs.Rounds.{HaveMade}
-use Rattle.rc_runner.specs.Running.{stands_of}
-use Rattle.rc_runner.specs.RunningLaws.{all_of_them, few_turns, idle_at_end, new_are_free, new_count, new_have_none, new_numbers, run_at_end}
+use Rattle.rc_runner.proofs.Imports.{range_with_len, HaveMade, stands_of, all_of_them, few_turns, idle_at_end, new_are_free, new_count, new_have_none, new_numbers, run_at_end}
 use Rattle.rc_runner.proofs.running.run_work.Goals as goal
 
 pub run_rounds-requires-clause-free : goal.run_rounds-requires-clause-free

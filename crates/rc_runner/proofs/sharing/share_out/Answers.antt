@@ -1,6 +1,5 @@
 use Rattle.std.proofs.Common.{ap, length-set, ◌∙◌}
-use Rattle.rc_runner.specs.Shares.{turns_in}
-use Rattle.rc_runner.specs.SharesLaws.{shared_more, turns_in-more}
+use Rattle.rc_runner.proofs.Imports.{turns_in, shared_more, turns_in-more}
 use Rattle.rc_runner.proofs.sharing.share_out.Goals as goal
 
 pub loop-turn-preserved : goal.loop-turn-preserved

@@ -1,7 +1,5 @@
 use Rattle.std.proofs.Common.{◌∙◌, ap, set}
-use Rattle.std.proofs.lemmas.List.{set-get_or}
-use Rattle.rc_runner.specs.TellingLaws.{heard_more}
-use Rattle.rc_runner.specs.Running.{stand_of, stands_of}
+use Rattle.rc_runner.proofs.Imports.{set-get_or, heard_more, stand_of, stands_of}
 use Rattle.rc_runner.proofs.telling.hear_all.Goals as goal
 
 pub loop-other-preserved : goal.loop-other-preserved

@@ -1,7 +1,5 @@
 use Rattle.std.proofs.Common.{◌≡◌, take}
-use Rattle.rc_runner.specs.Rounds.{HasHeardAll}
-use Rattle.rc_store.specs.Store.{IsFree}
-use Rattle.rc_runner.specs.Running.{number_of, stand_of, stands_of}
+use Rattle.rc_runner.proofs.Imports.{HasHeardAll, IsFree, number_of, stand_of, stands_of}
 use Rattle.rc_runner.proofs.telling.hear_all.Given as goal
 
 abbrev pub invariant-loop-other : goal.invariant-loop-other

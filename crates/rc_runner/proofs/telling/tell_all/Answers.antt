@@ -1,9 +1,5 @@
 use Rattle.std.proofs.Common.{◌∙◌, ◌≤◌, subst}
-use Rattle.std.proofs.lemmas.List.Elements.{All-set}
-use Rattle.rc_row.specs.Passes.{PassSeen, core_of}
-use Rattle.rc_runner.specs.TellingLaws.{set_same, told_all, told_more}
-use Rattle.rc_store.specs.Store.{IsFree}
-use Rattle.rc_runner.specs.Running.{number_of, stand_of}
+use Rattle.rc_runner.proofs.Imports.{All-set, PassSeen, core_of, set_same, told_all, told_more, IsFree, number_of, stand_of}
 use Rattle.rc_runner.proofs.telling.tell_all.Goals as goal
 
 pub loop-other-preserved : goal.loop-other-preserved

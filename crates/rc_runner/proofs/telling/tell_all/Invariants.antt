@@ -1,7 +1,5 @@
 use Rattle.std.proofs.Common.{◌≡◌, ◌≤◌, All, map, take}
-use Rattle.rc_row.specs.Passes.{core_of}
-use Rattle.rc_store.specs.Store.{IsFree}
-use Rattle.rc_runner.specs.Running.{numbers_of}
+use Rattle.rc_runner.proofs.Imports.{core_of, IsFree, numbers_of}
 use Rattle.rc_runner.proofs.telling.tell_all.Given as goal
 
 abbrev pub invariant-loop-other : goal.invariant-loop-other

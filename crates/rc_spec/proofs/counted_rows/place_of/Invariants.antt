@@ -1,6 +1,5 @@
 use Rattle.std.proofs.Common.{◌≡◌, ◌++◌, take, drop}
-use Rattle.rc_tuple.specs.RisingSet.{put}
-use Rattle.rc_spec.specs.Fragments.{edge_row_cmp}
+use Rattle.rc_spec.proofs.Imports.{put, edge_row_cmp}
 use Rattle.rc_spec.proofs.counted_rows.place_of.Given as goal
 
 abbrev pub invariant-loop-at : goal.invariant-loop-at

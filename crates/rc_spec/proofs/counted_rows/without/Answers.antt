@@ -1,5 +1,4 @@
-use Rattle.std.proofs.Common.{rules}
-use Rattle.std.proofs.lemmas.Fn.{filter_same}
+use Rattle.rc_spec.proofs.Imports.{rules, filter_same}
 use Rattle.rc_spec.proofs.counted_rows.without.Goals as goal
 
 pub returns : goal.returns

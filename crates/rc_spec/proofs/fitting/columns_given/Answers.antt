@@ -1,9 +1,5 @@
 use Rattle.std.proofs.Common.{◌<◌, ◌≤◌, sym, ◌∙◌, ap, subst, length, arith}
-use Rattle.std.specs.Ordering.{nat_cmp}
-use Rattle.rc_tuple.specs.RisingSet.{In, gather}
-use Rattle.rc_tuple.specs.RisingSetLaws.{nat_order, gather-rising}
-use Rattle.rc_tuple.specs.ColSetLaws.{rising_range}
-use Rattle.rc_spec.specs.Calls.{value_columns}
+use Rattle.rc_spec.proofs.Imports.{nat_cmp, In, gather, nat_order, gather-rising, rising_range, value_columns}
 use Rattle.rc_spec.proofs.fitting.columns_given.Goals as goal
 
 pub from_list-requires : goal.from_list-requires

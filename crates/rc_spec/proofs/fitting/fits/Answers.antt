@@ -1,9 +1,5 @@
 use Rattle.std.proofs.Common.{◌<◌, sym, ap, subst, length, arith}
-use Rattle.std.proofs.lemmas.Option.{slice_get_within}
-use Rattle.rc_tuple.specs.RisingSet.{In}
-use Rattle.rc_tuple.specs.RisingSetLaws.{get_or_in}
-use Rattle.rc_spec.specs.declared.items.Op.{Op}
-use Rattle.rc_spec.specs.Placement.{no_op}
+use Rattle.rc_spec.proofs.Imports.{slice_get_within, In, get_or_in, Op, no_op}
 use Rattle.rc_spec.proofs.fitting.fits.Goals as goal
 
 pub columns_given-given-requires-clause-known : goal.columns_given-given-requires-clause-known

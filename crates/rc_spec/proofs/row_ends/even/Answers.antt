@@ -1,8 +1,5 @@
 use Rattle.std.proofs.Common.{◌≡◌, ◌+◌, ◌*◌, ◌++◌, ◌∷◌, [], ap, sym, ◌∙◌, suc, arith}
-use Rattle.std.proofs.Math.Nat.{suc-mul}
-use Rattle.std.proofs.Math.Numerals.{add-one}
-use Rattle.rc_spec.specs.RowEnds.{even_ends}
-use Rattle.rc_spec.specs.RowEndsLaws.{even_ends-more}
+use Rattle.rc_spec.proofs.Imports.{suc-mul, add-one, even_ends, even_ends-more}
 use Rattle.rc_spec.proofs.row_ends.even.Goals as goal
 
 pub loop-preserved : goal.loop-preserved

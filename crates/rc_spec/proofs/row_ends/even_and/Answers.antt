@@ -1,7 +1,5 @@
 use Rattle.std.proofs.Common.{◌≡◌, ◌+◌, ◌^◌, ◌<◌, ◌++◌, ◌∷◌, [], SomeIff, ap, subst, ◌∙◌, suc, arith}
-use Rattle.std.proofs.Math.Nat.{suc-mul}
-use Rattle.rc_spec.specs.RowEnds.{even_ends}
-use Rattle.rc_spec.specs.RowEndsLaws.{even_ends-more}
+use Rattle.rc_spec.proofs.Imports.{suc-mul, even_ends, even_ends-more}
 use Rattle.rc_spec.proofs.row_ends.even_and.Goals as goal
 
 pub returns-then-end-rows-clause-ends : goal.returns-then-end-rows-clause-ends

@@ -1,9 +1,5 @@
 use Rattle.std.proofs.Common.{arith, sym, ap, ◌∙◌}
-use Rattle.std.specs.Option.{unwrap_or}
-use Rattle.rc_tuple.specs.RisingSetLaws.{slice_get_there}
-use Rattle.rc_tuple.specs.Tuple.{value}
-use Rattle.rc_spec.specs.Stripes.{mix}
-use Rattle.rc_spec.specs.PlacementLaws.{hash_of_more}
+use Rattle.rc_spec.proofs.Imports.{unwrap_or, slice_get_there, value, mix, hash_of_more}
 use Rattle.rc_spec.proofs.stripes.hash_of.Goals as goal
 use Rattle.rc_spec.proofs.stripes.hash_of.Goals.{in-Some, in_default}
 

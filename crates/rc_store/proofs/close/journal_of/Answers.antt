@@ -1,10 +1,5 @@
 use Rattle.std.proofs.Common.{◌≡◌, ℕ, List, Option, Some, length, sym, ap, subst}
-use Rattle.std.specs.Prelude.{IfSome}
-use Rattle.rc_rel.specs.declared.entry.Entry.{Entry}
-use Rattle.rc_journal.specs.Merge.{AreNumbersBelow, ArePartsOf, places_of}
-use Rattle.rc_journal.specs.PartEntries.{PartEntries}
-use Rattle.rc_store.specs.Closed.{AreKeptOf}
-use Rattle.rc_store.specs.ClosedLaws.{parts_are_placed, parts_of_history}
+use Rattle.rc_store.proofs.Imports.{IfSome, Entry, AreNumbersBelow, ArePartsOf, places_of, PartEntries, AreKeptOf, parts_are_placed, parts_of_history}
 use Rattle.rc_store.proofs.close.journal_of.Goals as goal
 
 pub merge-requires : goal.merge-requires

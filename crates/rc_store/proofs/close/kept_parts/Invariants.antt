@@ -1,6 +1,5 @@
 use Rattle.std.proofs.Common.{◌≡◌, ◌+◌, ◌≤◌, ◌++◌, length}
-use Rattle.std.specs.Vec.Iter.{into_iter_items, into_iter_len}
-use Rattle.rc_store.specs.ClosedLaws.{parts_in}
+use Rattle.rc_store.proofs.Imports.{into_iter_items, into_iter_len, parts_in}
 use Rattle.rc_store.proofs.close.kept_parts.Given as goal
 
 -- those that were taken, and those of the passes that are left

@@ -1,10 +1,4 @@
-use Rattle.std.proofs.Common.{List, sym, subst}
-use Rattle.rc_plan.specs.Compiled.{IsCompiled, SpecWithPlans}
-use Rattle.rc_spec.specs.Locks.{StripeLock}
-use Rattle.rc_multi.specs.Group.{Suffice}
-use Rattle.rc_row.specs.Passes.{compiled_of}
-use Rattle.rc_store.specs.Lending.{held_stripes}
-use Rattle.rc_store.specs.GroupLaws.{few_on, group_ready, held_rise, locks_inside, locks_rise, locks_suffice, spare_on}
+use Rattle.rc_store.proofs.Imports.{List, sym, subst, IsCompiled, SpecWithPlans, StripeLock, Suffice, compiled_of, held_stripes, few_on, group_ready, held_rise, locks_inside, locks_rise, locks_suffice, spare_on}
 use Rattle.rc_store.proofs.group_run.lock_and_run.Given.{Over}
 use Rattle.rc_store.proofs.group_run.lock_and_run.Goals.{After-accepted}
 use Rattle.rc_store.proofs.group_run.lock_and_run.Goals as goal

@@ -1,8 +1,4 @@
-use Rattle.std.proofs.Common.{subst, sym}
-use Rattle.rc_machine.specs.Machine.{locks_of}
-use Rattle.rc_multi.specs.Group.{Suffice}
-use Rattle.rc_row.specs.Passes.{PassSeen}
-use Rattle.rc_store.specs.Lending.{held_stripes}
+use Rattle.rc_store.proofs.Imports.{subst, sym, locks_of, Suffice, PassSeen, held_stripes}
 use Rattle.rc_store.proofs.group_run.run_calls.Goals as goal
 
 pub run_lent-ran-requires-clause-suffice : goal.run_lent-ran-requires-clause-suffice

@@ -1,19 +1,5 @@
-use Rattle.std.specs.Prelude.{List, length}
-use Rattle.std.specs.Ordering.{nat_cmp}
+use Rattle.rc_store.proofs.Imports.{List, length, nat_cmp, on_ok_weaker, IsRising, Pairs, Spec, HeldStripe, Holding, SpecWithPlans, locks_of, stripes_held, AreOfRelationFor, Suffice, core_of, spec_of, IsLentBy, IsLentSo, held_stripes, held_of-lending, lent_last, as_taken_held, lent_held, ran_so, relation_held, of_row_so, unrefused_so, way_so}
 use Rattle.std.proofs.Common.{◌≡◌, ℕ, ap, sym, subst}
-use Rattle.std.proofs.lemmas.Result.{on_ok_weaker}
-use Rattle.rc_tuple.specs.RisingSet.{IsRising}
-use Rattle.rc_tuple.specs.Tuple.{Pairs}
-use Rattle.rc_spec.specs.declared.spec.Spec.{Spec}
-use Rattle.rc_fragment.specs.Holder.{HeldStripe, Holding}
-use Rattle.rc_plan.specs.Compiled.{SpecWithPlans}
-use Rattle.rc_machine.specs.Machine.{locks_of, stripes_held}
-use Rattle.rc_multi.specs.Group.{AreOfRelationFor, Suffice}
-use Rattle.rc_row.specs.Passes.{core_of, spec_of}
-use Rattle.rc_store.specs.Lending.{IsLentBy, IsLentSo, held_stripes}
-use Rattle.rc_store.specs.LendingLaws.{held_of-lending, lent_last}
-use Rattle.rc_store.specs.GroupLaws.{as_taken_held, lent_held, ran_so, relation_held}
-use Rattle.rc_store.specs.RunLaws.{of_row_so, unrefused_so, way_so}
 use Rattle.rc_store.proofs.group_run.run_holder.Given.{Over}
 use Rattle.rc_store.proofs.group_run.run_holder.Goals.{After-held_agrees, After-run_group}
 use Rattle.rc_store.proofs.group_run.run_holder.Goals as goal

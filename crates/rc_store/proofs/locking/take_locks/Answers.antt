@@ -1,12 +1,5 @@
-use Rattle.std.specs.Prelude.{get_or, take}
+use Rattle.rc_store.proofs.Imports.{get_or, take, get_or_in, map_in, Shared, StripeLock, core_of, with_standing, KeepsOut, turned_away, some_of, busy_there, next_above}
 use Rattle.std.proofs.Common.{◌≡◌, false}
-use Rattle.rc_tuple.specs.RisingSetLaws.{get_or_in, map_in}
-use Rattle.rc_spec.specs.declared.lock.Mode.TheVariants.{Shared}
-use Rattle.rc_spec.specs.Locks.{StripeLock}
-use Rattle.rc_row.specs.Passes.{core_of, with_standing}
-use Rattle.rc_row.specs.Standings.{KeepsOut, turned_away}
-use Rattle.rc_store.specs.LendingLaws.{some_of}
-use Rattle.rc_store.specs.LockingLaws.{busy_there, next_above}
 use Rattle.rc_store.proofs.locking.take_locks.Goals as goal
 
 pub take-requires-clause-stripe : goal.take-requires-clause-stripe

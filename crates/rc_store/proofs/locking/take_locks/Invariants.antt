@@ -1,6 +1,4 @@
-use Rattle.std.specs.Prelude.{take}
-use Rattle.rc_row.specs.Passes.{IsPassOf}
-use Rattle.rc_store.specs.Locking.{HasTakenLocks}
+use Rattle.rc_store.proofs.Imports.{take, IsPassOf, HasTakenLocks}
 use Rattle.rc_store.proofs.locking.take_locks.Given as goal
 
 abbrev pub invariant-loop-lock : goal.invariant-loop-lock

@@ -1,18 +1,5 @@
-use Rattle.std.specs.Prelude.{List}
-use Rattle.std.specs.Ordering.{nat_cmp}
+use Rattle.rc_store.proofs.Imports.{List, nat_cmp, IsRising, Pairs, Spec, HeldStripe, Holding, SpecWithPlans, plan_at, locks_of, stripes_held, AreNowOf, Covers, HasRunTaking, spec_of, lent_held, IsLentBy, IsLentSo, held_of-lending, lent_last, each_ok, of_row_so, unrefused_so, way_so}
 use Rattle.std.proofs.Common.{◌≡◌, ap, sym, subst}
-use Rattle.rc_tuple.specs.RisingSet.{IsRising}
-use Rattle.rc_tuple.specs.Tuple.{Pairs}
-use Rattle.rc_spec.specs.declared.spec.Spec.{Spec}
-use Rattle.rc_fragment.specs.Holder.{HeldStripe, Holding}
-use Rattle.rc_plan.specs.Compiled.{SpecWithPlans, plan_at}
-use Rattle.rc_machine.specs.Machine.{locks_of, stripes_held}
-use Rattle.rc_multi.specs.Group.{AreNowOf, Covers, HasRunTaking}
-use Rattle.rc_row.specs.Passes.{spec_of}
-use Rattle.rc_store.specs.GroupLaws.{lent_held}
-use Rattle.rc_store.specs.Lending.{IsLentBy, IsLentSo}
-use Rattle.rc_store.specs.LendingLaws.{held_of-lending, lent_last}
-use Rattle.rc_store.specs.RunLaws.{each_ok, of_row_so, unrefused_so, way_so}
 use Rattle.rc_store.proofs.open_run.run_holder.Given.{Over}
 use Rattle.rc_store.proofs.open_run.run_holder.Goals.{After-held_agrees, After-run_in_group}
 use Rattle.rc_store.proofs.open_run.run_holder.Goals as goal

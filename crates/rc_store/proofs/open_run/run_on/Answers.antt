@@ -1,8 +1,4 @@
-use Rattle.std.proofs.Common.{subst, sym}
-use Rattle.rc_machine.specs.Machine.{locks_of}
-use Rattle.rc_multi.specs.Group.{Covers}
-use Rattle.rc_row.specs.Passes.{PassSeen}
-use Rattle.rc_store.specs.Lending.{held_stripes}
+use Rattle.rc_store.proofs.Imports.{subst, sym, locks_of, Covers, PassSeen, held_stripes}
 use Rattle.rc_store.proofs.open_run.run_on.Goals as goal
 
 pub run_lent-ran-requires-clause-covered : goal.run_lent-ran-requires-clause-covered

@@ -1,12 +1,5 @@
 use Rattle.std.proofs.Common.{ℕ, ◌==◌, rules, subst, sym, tests, ◌∙◌}
-use Rattle.std.proofs.lemmas.Bool.{eq-eqb, eqb-true}
-use Rattle.std.proofs.lemmas.Iterator.{YieldsList-from_slice}
-use Rattle.std.proofs.lemmas.Iterator.Search.{any_from_yields_List}
-use Rattle.rc_tuple.specs.RelationLaws.{in_list_any, list_any_in}
-use Rattle.rc_tuple.specs.RisingSet.{In}
-use Rattle.rc_tuple.specs.RisingSetLaws.{in_map, map_in}
-use Rattle.rc_spec.specs.Locks.{StripeLock}
-use Rattle.rc_plan.specs.StripeLocks.{stripes_of}
+use Rattle.rc_store.proofs.Imports.{eq-eqb, eqb-true, YieldsList-from_slice, any_from_yields_List, in_list_any, list_any_in, In, in_map, map_in, StripeLock, stripes_of}
 use Rattle.rc_store.proofs.opening.is_listed.Goals as goal
 
 pub returns : goal.returns

@@ -1,9 +1,5 @@
 use Rattle.std.proofs.Common.{◌≡◌, ◌<◌, ℕ, List, Option, Some, sym, subst, ◌∙◌}
-use Rattle.std.specs.Prelude.{IfSome}
-use Rattle.rc_rel.specs.declared.entry.Entry.{Entry}
-use Rattle.rc_journal.specs.PartEntries.{PartEntries}
-use Rattle.rc_store.specs.Resumed.{AreKeptParts, HavePasses, HaveRoomFor}
-use Rattle.rc_store.specs.ResumedLaws.{kept_parts}
+use Rattle.rc_store.proofs.Imports.{IfSome, Entry, PartEntries, AreKeptParts, HavePasses, HaveRoomFor, kept_parts}
 use Rattle.rc_store.proofs.resume.ended_passes.Goals as goal
 
 rooms : (made : List ℕ) (passes : ℕ) (parts : List PartEntries) (journal : Option (List Entry)) (history : List Entry) → journal ≡ Some history

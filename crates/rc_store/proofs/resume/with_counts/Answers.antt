@@ -1,7 +1,5 @@
 use Rattle.std.proofs.Common.{◌≡◌, ◌+◌, ◌≤◌, List, length, ap, sym, subst, ◌∙◌}
-use Rattle.rc_row.specs.declared.close.EndedPass.{EndedPass}
-use Rattle.rc_store.specs.Resumed.{counted_passes}
-use Rattle.rc_store.specs.ResumedLaws.{counted_on, many_counted}
+use Rattle.rc_store.proofs.Imports.{EndedPass, counted_passes, counted_on, many_counted}
 use Rattle.rc_store.proofs.resume.with_counts.Goals as goal
 
 more : (c : goal.After-push_reserved) → c.push_reserved.new.self.items ≡ counted_passes c.args.made.now (c.loop-number.number + 1)

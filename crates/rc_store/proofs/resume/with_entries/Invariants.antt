@@ -1,6 +1,5 @@
 use Rattle.std.proofs.Common.{◌≡◌, ◌+◌, ◌≤◌, ◌++◌, length, map}
-use Rattle.std.specs.Vec.Iter.{into_iter_items, into_iter_len}
-use Rattle.rc_store.specs.Resumed.{kept_pass}
+use Rattle.rc_store.proofs.Imports.{into_iter_items, into_iter_len, kept_pass}
 use Rattle.rc_store.proofs.resume.with_entries.Given as goal
 
 -- those that were put, and those of the parts that are left

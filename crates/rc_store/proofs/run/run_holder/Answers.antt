@@ -1,10 +1,6 @@
 use Rattle.std.specs.Prelude.{◌≡◌}
-use Rattle.rc_fragment.specs.Holder.{Holding}
-use Rattle.rc_machine.specs.ReplyLaws.{told_answer_counts, told_answer_err, told_answer_fault, told_answer_from_ok, told_answer_ok}
+use Rattle.rc_store.proofs.Imports.{Holding, told_answer_counts, told_answer_err, told_answer_fault, told_answer_from_ok, told_answer_ok, spec_of, IsLentBy, IsUnrefused, lending, answered_so, busy_so, lent_run, none_waits_so, of_row_so, replied_so, stopped_so, unrefused_so, way_so}
 use Rattle.rc_machine.specs.declared.stop.Stop.TheVariants as stop
-use Rattle.rc_row.specs.Passes.{spec_of}
-use Rattle.rc_store.specs.Lending.{IsLentBy, IsUnrefused, lending}
-use Rattle.rc_store.specs.RunLaws.{answered_so, busy_so, lent_run, none_waits_so, of_row_so, replied_so, stopped_so, unrefused_so, way_so}
 use Rattle.rc_store.proofs.run.run_holder.Given as given
 use Rattle.rc_store.proofs.run.run_holder.Goals as goal
 

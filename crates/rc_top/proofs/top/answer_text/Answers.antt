@@ -1,17 +1,5 @@
 use Rattle.std.proofs.Common.{arith, ap, ◌∙◌, ◌≡◌, ◌≤◌, ◌+◌, ◌^◌, ◌↔◌, ℕ, List, length, sym, subst}
-use Rattle.std.specs.Prelude.{IfSome, IsSome}
-use Rattle.rc_answer.specs.Answers.{Answers, MakesCalls, also_of, ArePlansFor}
-use Rattle.rc_answer.specs.Ran.{HasTextOf, IsOneHistory, status_in}
-use Rattle.rc_answer.specs.Writes.{Writes}
-use Rattle.rc_top.specs.Answer.{IsAnswer}
-use Rattle.rc_top.specs.Asks.{HasRead}
-use Rattle.rc_top.specs.Ends.{Ends, status_of}
-use Rattle.rc_answer.specs.declared.outcome.Outcome.{Outcome}
-use Rattle.rc_answer.specs.declared.status.Status.{Status}
-use Rattle.rc_answer.specs.declared.status.Status.TheVariants.{Done}
-use Rattle.rc_io.specs.Bytes.{Takes}
-use Rattle.rc_io.specs.Faults.{IsCountTaken}
-use Rattle.rc_io.specs.declared.source.ReadFault.{ReadFault}
+use Rattle.rc_top.proofs.Imports.{IfSome, IsSome, Answers, MakesCalls, also_of, ArePlansFor, HasTextOf, IsOneHistory, status_in, Writes, IsAnswer, HasRead, Ends, status_of, Outcome, Status, Done, Takes, IsCountTaken, ReadFault}
 use Rattle.rc_top.proofs.EndLemmas.{all_read, bad_ends_audit, leaves, limit_read, long_ends, read_ends, size_is_not_bad}
 use Rattle.rc_top.proofs.RanLemmas.{history_left, left_exactly, none_left, run_left, size_not_done}
 use Rattle.rc_top.proofs.CountLemmas.{quiet_runner, quiet_writer}

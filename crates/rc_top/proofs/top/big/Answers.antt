@@ -1,13 +1,5 @@
 use Rattle.std.proofs.Common.{◌↔◌, ◌≡◌, ◌∙◌, sym, subst}
-use Rattle.std.specs.Prelude.{IfSome, IsSome}
-use Rattle.rc_answer.specs.Big.{HasSummaryText}
-use Rattle.rc_answer.specs.Plans.{ArePlanned}
-use Rattle.rc_answer.specs.Ran.{IsOneHistory, status_in}
-use Rattle.rc_work.specs.declared.also.Also.TheVariants.{Nothing}
-use Rattle.rc_answer.specs.declared.outcome.Outcome.{Outcome}
-use Rattle.rc_answer.specs.declared.status.Status.{Status}
-use Rattle.rc_answer.specs.declared.status.Status.TheVariants.{Done}
-use Rattle.rc_top.specs.Ends.{EndsBig}
+use Rattle.rc_top.proofs.Imports.{IfSome, IsSome, HasSummaryText, ArePlanned, IsOneHistory, status_in, Nothing, Outcome, Status, Done, EndsBig}
 use Rattle.rc_top.proofs.EndLemmas.{big_ends}
 use Rattle.rc_top.proofs.RanLemmas.{big_history_left, big_left_exactly, summary_left}
 use Rattle.rc_top.proofs.CountLemmas.{quiet_runner}

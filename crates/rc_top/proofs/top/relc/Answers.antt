@@ -1,18 +1,7 @@
 use Rattle.std.proofs.Common.{◌≡◌, Some, None, ap, map, string_bytes, sym, ◌∙◌, subst}
 use Rattle.std.specs.Prelude.{◌⊎◌, IfSome}
-use Rattle.rc_answer.specs.declared.outcome.Outcome.{Outcome}
-use Rattle.rc_answer.specs.Answers.{audit_for}
-use Rattle.rc_answer.specs.Ran.{HasTextOf}
-use Rattle.rc_command.specs.declared.command.Command.TheVariants.{Big, OfText}
-use Rattle.rc_command.specs.declared.command.TextCommand.{TextCommand}
-use Rattle.rc_command.specs.declared.command.TextCommand.TheVariants.{Check, Run, Group, Hand, Open}
-use Rattle.rc_top.specs.Answer.{IsAnswered, KeepsRules}
-use Rattle.rc_answer.specs.declared.status.Status.{Status}
-use Rattle.rc_answer.specs.declared.status.Status.TheVariants.{OutOfMemory}
-use Rattle.rc_top.specs.Asks.{HasRead}
-use Rattle.rc_top.specs.Ends.{EndsBig, EndsUsage}
+use Rattle.rc_top.proofs.Imports.{Outcome, audit_for, HasTextOf, Big, OfText, TextCommand, Check, Run, Group, Hand, Open, IsAnswered, KeepsRules, Status, OutOfMemory, HasRead, EndsBig, EndsUsage, command_of}
 use Rattle.rc_top.proofs.EndLemmas.{answered, done_bad_or_refused, done_or_refused, one_command}
-use Rattle.rc_command.specs.Command.{command_of}
 use Rattle.rc_top.proofs.RanLemmas.{history_by_seed}
 use Rattle.rc_top.proofs.HeadlineLemmas.{by_hand_headline, checked_headline, group_headline, judged_headline, opened_headline, run_headline}
 use Rattle.rc_top.proofs.top.relc.Goals as goal

@@ -1,9 +1,5 @@
 use Rattle.std.proofs.Common.{rules, is_lt, refl, ◌∙◌}
-use Rattle.std.proofs.lemmas.Fn.{dedup_same}
-use Rattle.std.proofs.lemmas.List.Sorted.{answers_always, ranks_by}
-use Rattle.rc_tuple.specs.RisingSetLaws.{kept_once}
-use Rattle.rc_tuple.specs.Tuple.{Pairs, tuple_cmp, tuple_eq}
-use Rattle.rc_tuple.specs.TupleLaws.{tuple_order}
+use Rattle.rc_tuple.proofs.Imports.{dedup_same, answers_always, ranks_by, kept_once, Pairs, tuple_cmp, tuple_eq, tuple_order}
 use Rattle.rc_tuple.proofs.sorting.distinct.Goals as goal
 
 pub returns : goal.returns

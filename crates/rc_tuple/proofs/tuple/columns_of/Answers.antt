@@ -1,8 +1,5 @@
 use Rattle.std.proofs.Common.{arith, get_or, ap, ◌∙◌, sym}
-use Rattle.std.specs.Ordering.{nat_cmp}
-use Rattle.rc_tuple.specs.RisingSet.{put}
-use Rattle.rc_tuple.specs.RisingSetLaws.{get_or_in}
-use Rattle.rc_tuple.specs.TupleLaws.{columns_more}
+use Rattle.rc_tuple.proofs.Imports.{nat_cmp, put, get_or_in, columns_more}
 use Rattle.rc_tuple.proofs.tuple.columns_of.Goals as goal
 
 pub with-cols-requires : goal.with-cols-requires

@@ -1,7 +1,5 @@
 use Rattle.std.proofs.Common.{◌≡◌, take}
-use Rattle.std.specs.Ordering.{nat_cmp}
-use Rattle.rc_tuple.specs.RisingSet.{gather}
-use Rattle.rc_tuple.specs.Tuple.{cols_of}
+use Rattle.rc_tuple.proofs.Imports.{nat_cmp, gather, cols_of}
 use Rattle.rc_tuple.proofs.tuple.columns_of.Given as goal
 
 abbrev pub invariant-loop-pair : goal.invariant-loop-pair

@@ -1,6 +1,5 @@
 use Rattle.std.proofs.Common.{◌≡◌, take, true}
-use Rattle.std.specs.List.{list_all}
-use Rattle.rc_tuple.specs.Tuple.{has_pair}
+use Rattle.rc_tuple.proofs.Imports.{list_all, has_pair}
 use Rattle.rc_tuple.proofs.tuple.has_pairs.Given as goal
 
 abbrev pub invariant-loop-pair : goal.invariant-loop-pair

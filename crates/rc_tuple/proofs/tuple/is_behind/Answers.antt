@@ -1,9 +1,5 @@
 use Rattle.std.proofs.Common.{◌≡◌, ◌-◌, ◌∙◌, Some, length, sym, ap, arith}
-use Rattle.std.specs.List.{slice_get}
-use Rattle.std.specs.Option.{option_copied}
-use Rattle.std.proofs.lemmas.Bool.{ltb-true}
-use Rattle.std.proofs.lemmas.Option.{slice_get_within}
-use Rattle.rc_tuple.specs.TupleLaws.{put_above}
+use Rattle.rc_tuple.proofs.Imports.{slice_get, option_copied, ltb-true, slice_get_within, put_above}
 use Rattle.rc_tuple.proofs.tuple.is_behind.Goals as goal
 
 pub returns-in-Some : goal.returns-in-Some

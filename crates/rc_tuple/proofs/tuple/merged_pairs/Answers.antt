@@ -1,8 +1,5 @@
 use Rattle.std.proofs.Common.{sym, ◌∙◌, ◌++◌, ap, arith, subst, take}
-use Rattle.rc_tuple.specs.RisingSet.{IsRising, put}
-use Rattle.rc_tuple.specs.RisingSetLaws.{rising_gather}
-use Rattle.rc_tuple.specs.Tuple.{pair_cmp}
-use Rattle.rc_tuple.specs.TupleLaws.{merge_more, merge_none, pair_order}
+use Rattle.rc_tuple.proofs.Imports.{IsRising, put, rising_gather, pair_cmp, merge_more, merge_none, pair_order}
 use Rattle.rc_tuple.proofs.tuple.merged_pairs.Goals as goal
 
 pub loop-pair-init : goal.loop-pair-init

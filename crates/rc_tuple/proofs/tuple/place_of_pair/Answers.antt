@@ -1,11 +1,5 @@
 use Rattle.std.proofs.Common.{◌≡◌, ◌-◌, ◌∙◌, Some, length, sym, ap, arith}
-use Rattle.std.specs.List.{slice_get}
-use Rattle.std.specs.Option.{option_copied}
-use Rattle.std.proofs.lemmas.List.Edits.{insert_end}
-use Rattle.std.proofs.lemmas.Option.{slice_get_within}
-use Rattle.rc_tuple.specs.RisingSetLaws.{put_behind}
-use Rattle.rc_tuple.specs.Tuple.{pair_cmp}
-use Rattle.rc_tuple.specs.TupleLaws.{pair_order}
+use Rattle.rc_tuple.proofs.Imports.{slice_get, option_copied, insert_end, slice_get_within, put_behind, pair_cmp, pair_order}
 use Rattle.rc_tuple.proofs.tuple.place_of_pair.Goals as goal
 
 pub returns-in-Greater : goal.returns-in-Greater

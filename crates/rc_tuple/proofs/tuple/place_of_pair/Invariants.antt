@@ -1,6 +1,5 @@
 use Rattle.std.proofs.Common.{◌≡◌, ◌++◌, take, drop}
-use Rattle.rc_tuple.specs.RisingSet.{put}
-use Rattle.rc_tuple.specs.Tuple.{pair_cmp}
+use Rattle.rc_tuple.proofs.Imports.{put, pair_cmp}
 use Rattle.rc_tuple.proofs.tuple.place_of_pair.Given as goal
 
 abbrev pub invariant-loop-at : goal.invariant-loop-at

@@ -1,6 +1,5 @@
 use Rattle.std.proofs.Common.{◌≡◌, ◌+◌, ◌≤◌, ◌++◌, take, drop, length}
-use Rattle.std.specs.Vec.{vec_len, vec_capacity}
-use Rattle.rc_tuple.specs.Tuple.{project}
+use Rattle.rc_tuple.proofs.Imports.{vec_len, vec_capacity, project}
 use Rattle.rc_tuple.proofs.tuple.push_projected.Given as goal
 
 abbrev pub invariant-loop-pair : goal.invariant-loop-pair

@@ -1,11 +1,5 @@
 use Rattle.std.proofs.Common.{◌≡◌, ◌+◌, ◌<◌, true, ℕ, List, sym, ◌∙◌, ap, subst, arith, refl, get_or, length, vec_capacity, vec_len}
-use Rattle.std.specs.Prelude.{cond}
-use Rattle.rc_tuple.specs.ColSet.{has, rank}
-use Rattle.rc_tuple.specs.ColSetLaws.{rank-le, rank_more, rank_within}
-use Rattle.rc_tuple.specs.RisingSet.{IsRising, put}
-use Rattle.rc_tuple.specs.RisingSetLaws.{in_has}
-use Rattle.rc_tuple.specs.Tuple.{Pairs, merge, pair_cmp}
-use Rattle.rc_tuple.specs.TupleLaws.{merge_none, merge_with, rising_merge, zip_below, zip_below_all, zip_below_with, zip_below_without}
+use Rattle.rc_tuple.proofs.Imports.{cond, has, rank, rank-le, rank_more, rank_within, IsRising, put, in_has, Pairs, merge, pair_cmp, merge_none, merge_with, rising_merge, zip_below, zip_below_all, zip_below_with, zip_below_without}
 use Rattle.rc_tuple.proofs.tuple.put_columns.Goals.{Then-has, then-has, else-has}
 use Rattle.rc_tuple.proofs.tuple.put_columns.Goals as goal
 

@@ -1,8 +1,5 @@
 use Rattle.std.proofs.Common.{◌≡◌, ◌+◌, ◌-◌, ◌≤◌, length}
-use Rattle.std.specs.Vec.{vec_len, vec_capacity}
-use Rattle.rc_tuple.specs.ColSet.{rank}
-use Rattle.rc_tuple.specs.Tuple.{merge}
-use Rattle.rc_tuple.specs.TupleLaws.{zip_below}
+use Rattle.rc_tuple.proofs.Imports.{vec_len, vec_capacity, rank, merge, zip_below}
 use Rattle.rc_tuple.proofs.tuple.put_columns.Given as goal
 
 abbrev pub invariant-loop-col : goal.invariant-loop-col

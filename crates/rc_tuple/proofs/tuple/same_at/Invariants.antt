@@ -1,6 +1,5 @@
 use Rattle.std.proofs.Common.{◌≡◌, drop}
-use Rattle.std.specs.List.{list_all, zip}
-use Rattle.rc_tuple.specs.Tuple.{same_at}
+use Rattle.rc_tuple.proofs.Imports.{list_all, zip, same_at}
 use Rattle.rc_tuple.proofs.tuple.same_at.Given as goal
 
 abbrev pub invariant-loop-at : goal.invariant-loop-at

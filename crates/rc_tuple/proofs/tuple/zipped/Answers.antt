@@ -1,10 +1,5 @@
 use Rattle.std.proofs.Common.{◌≡◌, true, ◌<◌, ◌^◌, ◌∙◌, ◌∷◌, ◌++◌, [], ap, sym, subst, length, get_or, arith}
-use Rattle.std.specs.List.{zip}
-use Rattle.rc_tuple.specs.ColSet.{has, rank}
-use Rattle.rc_tuple.specs.ColSetLaws.{rank_within}
-use Rattle.rc_tuple.specs.RisingSetLaws.{in_from_places}
-use Rattle.rc_tuple.specs.Tuple.{IsTuple}
-use Rattle.rc_tuple.specs.TupleLaws.{IsTuple-zip, zip_below, length-zip_below, zip_below_all, zip_below_with, zip_below_without}
+use Rattle.rc_tuple.proofs.Imports.{zip, has, rank, rank_within, in_from_places, IsTuple, IsTuple-zip, zip_below, length-zip_below, zip_below_all, zip_below_with, zip_below_without}
 use Rattle.rc_tuple.proofs.tuple.zipped.Goals as goal
 use Rattle.rc_tuple.proofs.tuple.zipped.Goals.{then-has+in_ok-push, else-has}
 

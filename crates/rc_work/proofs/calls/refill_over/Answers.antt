@@ -1,10 +1,5 @@
 use Rattle.std.proofs.Common.{ℕ, ◌*◌, ◌-◌, ◌<◌, List, length, take, drop, sym, ap, ◌∙◌, subst}
-use Rattle.rc_tuple.specs.RisingSet.{In, AreDistinct}
-use Rattle.rc_tuple.specs.Tuple.{tuple_of}
-use Rattle.rc_work.specs.CallColumns.{columns_at, ranges_of}
-use Rattle.rc_work.specs.CallColumnsLaws.{columns_at-below, columns_at-distinct}
-use Rattle.rc_work.specs.CallLaws.{length-bounds}
-use Rattle.rc_work.specs.Shapes.{with_operations}
+use Rattle.rc_work.proofs.Imports.{In, AreDistinct, tuple_of, columns_at, ranges_of, columns_at-below, columns_at-distinct, length-bounds, with_operations}
 use Rattle.rc_work.proofs.CallLemmas.{ranges_found, ranges_within, count_given, columns_given, bounds_left, same_call}
 use Rattle.rc_work.proofs.calls.refill_over.Goals as goal
 

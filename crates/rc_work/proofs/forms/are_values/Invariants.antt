@@ -1,6 +1,5 @@
 use Rattle.std.proofs.Common.{◌≡◌, drop}
-use Rattle.std.specs.List.{list_all}
-use Rattle.rc_work.specs.LineForms.{word_texts, is_value}
+use Rattle.rc_work.proofs.Imports.{list_all, word_texts, is_value}
 use Rattle.rc_work.proofs.forms.are_values.Given as goal
 
 abbrev pub invariant-loop-word : goal.invariant-loop-word

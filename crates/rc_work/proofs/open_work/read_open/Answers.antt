@@ -1,16 +1,5 @@
 use Rattle.std.proofs.Common.{List, sym, ap, ◌∙◌, subst}
-use Rattle.std.specs.List.{AllByRecursion}
-use Rattle.rc_spec.specs.declared.items.Op.{Op}
-use Rattle.rc_work.specs.CallColumns.{HasKnownColumns}
-use Rattle.rc_work.specs.Drafts.{IsRawTurn}
-use Rattle.rc_work.specs.Fitting.{AreOfWords, HasThreads, RoundsFit}
-use Rattle.rc_work.specs.Limits.{HasSingleTurns, KeepsLimits, KnowsTexts}
-use Rattle.rc_work.specs.OpenLaws.{IsOpenDraft-open_all}
-use Rattle.rc_work.specs.Ranking.{work_of}
-use Rattle.rc_work.specs.RankingLaws.{KeepsLimits-work_with, HasThreads-work_with, HasSingleTurns-work_with, RoundsFit-ranked_over, KnowsTexts-work_of}
-use Rattle.rc_work.specs.Shapes.{with_operations}
-use Rattle.rc_work.specs.ShapesLaws.{HasKnownColumns-over}
-use Rattle.rc_work.specs.declared.work.Work.{Work}
+use Rattle.rc_work.proofs.Imports.{AllByRecursion, Op, HasKnownColumns, IsRawTurn, AreOfWords, HasThreads, RoundsFit, HasSingleTurns, KeepsLimits, KnowsTexts, IsOpenDraft-open_all, work_of, KeepsLimits-work_with, HasThreads-work_with, HasSingleTurns-work_with, RoundsFit-ranked_over, KnowsTexts-work_of, with_operations, HasKnownColumns-over, Work}
 use Rattle.rc_work.proofs.open_work.read_open.Goals as goal
 
 pub work_over-requires-clause-columns : goal.work_over-requires-clause-columns

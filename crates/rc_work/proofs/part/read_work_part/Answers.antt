@@ -1,11 +1,4 @@
-use Rattle.std.proofs.Common.{sym, subst}
-use Rattle.std.proofs.lemmas.Result.{err_from_is_err_and}
-use Rattle.rc_reader.specs.Answers.{rest_place}
-use Rattle.rc_work.specs.Drafts.{IsDraft, IsOfAlso}
-use Rattle.rc_work.specs.Fitting.{AreOfWords, HasThreads, RoundsFit}
-use Rattle.rc_work.specs.Limits.{HasSingleTurns, KeepsLimits, KnowsTexts}
-use Rattle.rc_work.specs.RankingLaws.{KeepsLimits-work_with, HasThreads-work_with, HasSingleTurns-work_with, RoundsFit-ranked_rounds, KnowsTexts-work_of}
-use Rattle.rc_work.specs.declared.work.Work.{Work}
+use Rattle.rc_work.proofs.Imports.{sym, subst, err_from_is_err_and, rest_place, IsDraft, IsOfAlso, AreOfWords, HasThreads, RoundsFit, HasSingleTurns, KeepsLimits, KnowsTexts, KeepsLimits-work_with, HasThreads-work_with, HasSingleTurns-work_with, RoundsFit-ranked_rounds, KnowsTexts-work_of, Work}
 use Rattle.rc_work.proofs.PartLemmas.{IsDraft-part, IsOfAlso-part, IsWorkRefusal-part, work_part_read}
 use Rattle.rc_work.proofs.part.read_work_part.Goals.{In_ok-draft}
 use Rattle.rc_work.proofs.part.read_work_part.Goals as goal

@@ -1,9 +1,5 @@
 use Rattle.std.proofs.Common.{◌≡◌, ℕ, List, ◌++◌, map, sym, ap, ◌∙◌, subst}
-use Rattle.rc_tuple.specs.Tuple.{Pairs, value}
-use Rattle.rc_spec.specs.declared.items.OpKind.{OpKind}
-use Rattle.rc_spec.specs.declared.items.OpKind.TheVariants.{Query}
-use Rattle.rc_spec.specs.declared.range.Range.{Range}
-use Rattle.rc_work.specs.Printed.{bounds_given, given}
+use Rattle.rc_work.proofs.Imports.{Pairs, value, OpKind, Query, Range, bounds_given, given}
 use Rattle.rc_work.proofs.printing.given.Goals as goal
 
 -- what a query gives: the values at its pattern, and its bounds

@@ -1,6 +1,5 @@
 use Rattle.std.proofs.Common.{◌≡◌, ◌++◌, take, map}
-use Rattle.std.specs.List.{zip}
-use Rattle.rc_work.specs.Printed.{spaced, row_text}
+use Rattle.rc_work.proofs.Imports.{zip, spaced, row_text}
 use Rattle.rc_work.proofs.printing.push_spaced_rows.Given as goal
 
 abbrev pub invariant-loop-at : goal.invariant-loop-at

@@ -1,8 +1,6 @@
 use Rattle.std.proofs.Common.{[], List, ℕ, ◌∙◌}
-use Rattle.std.proofs.lemmas.Option.{unwrap_or-slice_get}
+use Rattle.rc_work.proofs.Imports.{unwrap_or-slice_get, unwrap_or, slice_get}
 use Rattle.std.proofs.Common.{◌≡◌, ap, None, get_or}
-use Rattle.std.specs.Prelude.{unwrap_or}
-use Rattle.std.specs.List.{slice_get}
 use Rattle.rc_work.proofs.printing.text_at.Goals as goal
 
 none_there : (texts : List (List ℕ)) (rank : ℕ) → None ≡ slice_get texts rank → [] ≡ get_or texts rank []

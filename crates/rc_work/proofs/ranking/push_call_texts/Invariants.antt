@@ -1,6 +1,5 @@
 use Rattle.std.proofs.Common.{◌≡◌, ◌++◌, take}
-use Rattle.std.specs.List.{flat_map}
-use Rattle.rc_work.specs.Ranking.{texts_in_value}
+use Rattle.rc_work.proofs.Imports.{flat_map, texts_in_value}
 use Rattle.rc_work.proofs.ranking.push_call_texts.Given as goal
 
 abbrev pub invariant-loop-value : goal.invariant-loop-value

@@ -1,6 +1,5 @@
 use Rattle.std.proofs.Common.{◌≡◌, ◌++◌, take}
-use Rattle.std.specs.List.{flat_map}
-use Rattle.rc_work.specs.Ranking.{texts_in_call}
+use Rattle.rc_work.proofs.Imports.{flat_map, texts_in_call}
 use Rattle.rc_work.proofs.ranking.push_turn_texts.Given as goal
 
 abbrev pub invariant-loop-call : goal.invariant-loop-call

@@ -1,9 +1,5 @@
 use Rattle.std.proofs.Common.{◌≡◌, take, drop, map}
-use Rattle.std.specs.List.{AllByRecursion}
-use Rattle.rc_work.specs.Drafts.{IsRawCall}
-use Rattle.rc_work.specs.Fitting.{IsOfWords}
-use Rattle.rc_work.specs.Ranking.{ranked_call}
-use Rattle.rc_work.specs.Shapes.{with_operations}
+use Rattle.rc_work.proofs.Imports.{AllByRecursion, IsRawCall, IsOfWords, ranked_call, with_operations}
 use Rattle.rc_work.proofs.ranking.ranked_calls.Given as goal
 
 abbrev pub invariant-loop-call : goal.invariant-loop-call

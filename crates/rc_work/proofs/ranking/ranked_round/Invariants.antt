@@ -1,9 +1,5 @@
 use Rattle.std.proofs.Common.{◌≡◌, take, drop}
-use Rattle.std.specs.List.{AllByRecursion}
-use Rattle.rc_work.specs.Drafts.{IsRawTurn}
-use Rattle.rc_work.specs.Fitting.{IsOfWords}
-use Rattle.rc_work.specs.Ranking.{ranked_round}
-use Rattle.rc_work.specs.Shapes.{with_operations}
+use Rattle.rc_work.proofs.Imports.{AllByRecursion, IsRawTurn, IsOfWords, ranked_round, with_operations}
 use Rattle.rc_work.proofs.ranking.ranked_round.Given as goal
 
 abbrev pub invariant-loop-turn : goal.invariant-loop-turn

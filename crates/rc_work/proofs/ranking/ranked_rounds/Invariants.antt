@@ -1,9 +1,5 @@
 use Rattle.std.proofs.Common.{◌≡◌, take, drop}
-use Rattle.std.specs.List.{AllByRecursion}
-use Rattle.rc_work.specs.Drafts.{IsRawTurn}
-use Rattle.rc_work.specs.Fitting.{AreOfWords}
-use Rattle.rc_work.specs.Ranking.{ranked_rounds}
-use Rattle.rc_work.specs.Shapes.{with_operations}
+use Rattle.rc_work.proofs.Imports.{AllByRecursion, IsRawTurn, AreOfWords, ranked_rounds, with_operations}
 use Rattle.rc_work.proofs.ranking.ranked_rounds.Given as goal
 
 abbrev pub invariant-loop-round : goal.invariant-loop-round

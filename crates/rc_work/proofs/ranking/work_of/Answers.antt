@@ -1,8 +1,5 @@
 use Rattle.std.proofs.Common.{◌≡◌, subst}
-use Rattle.std.specs.Prelude.{IfOk}
-use Rattle.rc_spec.specs.declared.spec.Spec.{Spec}
-use Rattle.rc_work.specs.Ranking.{work_of}
-use Rattle.rc_work.specs.ShapesLaws.{with_none}
+use Rattle.rc_work.proofs.Imports.{IfOk, Spec, work_of, with_none}
 use Rattle.rc_work.proofs.ranking.work_of.Goals as goal
 
 pub returns-clause-work : goal.returns-clause-work

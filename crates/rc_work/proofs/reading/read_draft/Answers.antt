@@ -1,8 +1,5 @@
 use Rattle.std.proofs.Common.{sym, ap, subst, ◌∙◌}
-use Rattle.rc_text.specs.Lines.{content_from, past_end_of}
-use Rattle.rc_reader.specs.Answers.{Refuses, refusal_at}
-use Rattle.rc_reader.specs.declared.refusal.LineRule.TheVariants.{S8}
-use Rattle.rc_work.specs.WorkGrammar.{broken_at}
+use Rattle.rc_work.proofs.Imports.{content_from, past_end_of, Refuses, refusal_at, S8, broken_at}
 use Rattle.rc_work.proofs.ReadingLemmas.{behind_header, whole, unended, refused}
 use Rattle.rc_work.proofs.reading.read_draft.Goals as goal
 

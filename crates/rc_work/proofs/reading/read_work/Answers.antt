@@ -1,13 +1,4 @@
-use Rattle.std.proofs.Common.{sym, subst}
-use Rattle.std.proofs.lemmas.Result.{err_from_is_err_and}
-use Rattle.rc_work.specs.DraftsLaws.{IsDraft-reading_all}
-use Rattle.rc_work.specs.RefusalLaws.{IsWorkRefusal-reading_all}
-use Rattle.rc_work.specs.RankingLaws.{KeepsLimits-work_with, HasThreads-work_with, HasSingleTurns-work_with, RoundsFit-ranked_rounds, KnowsTexts-work_of}
-use Rattle.rc_work.specs.Fitting.{AreOfWords, HasThreads, RoundsFit}
-use Rattle.rc_work.specs.GroupsLaws.{IsOfAlso-reading_all}
-use Rattle.rc_work.specs.Drafts.{IsOfAlso}
-use Rattle.rc_work.specs.Limits.{HasSingleTurns, KeepsLimits, KnowsTexts}
-use Rattle.rc_work.specs.declared.work.Work.{Work}
+use Rattle.rc_work.proofs.Imports.{sym, subst, err_from_is_err_and, IsDraft-reading_all, IsWorkRefusal-reading_all, KeepsLimits-work_with, HasThreads-work_with, HasSingleTurns-work_with, RoundsFit-ranked_rounds, KnowsTexts-work_of, AreOfWords, HasThreads, RoundsFit, IsOfAlso-reading_all, IsOfAlso, HasSingleTurns, KeepsLimits, KnowsTexts, Work}
 use Rattle.rc_work.proofs.reading.read_work.Goals as goal
 
 pub work_of-requires-clause-turns : goal.work_of-requires-clause-turns

@@ -1,8 +1,5 @@
 use Rattle.std.proofs.Common.{◌≡◌, ℕ, ◌-◌, ◌≤◌, List, [], ◌∷◌, length, Some, refl, sym, ap, ◌∙◌, arith}
-use Rattle.std.specs.Prelude.{codes}
-use Rattle.std.specs.List.{slice_get}
-use Rattle.std.proofs.lemmas.Option.{slice_get_read, slice_get_past}
-use Rattle.rc_work.specs.ReportLaws.{final_row, final_after}
+use Rattle.rc_work.proofs.Imports.{codes, slice_get, slice_get_read, slice_get_past, final_row, final_after}
 use Rattle.rc_work.proofs.report.print_final_line.Goals as goal
 
 pub returns-then-place-rows : goal.returns-then-place-rows

@@ -1,7 +1,5 @@
 use Rattle.std.proofs.Common.{◌≡◌, ◌++◌, drop}
-use Rattle.std.specs.List.{list_any}
-use Rattle.rc_work.specs.LineForms.{word_texts}
-use Rattle.rc_work.specs.LineRules.{is_too_large, raw_values}
+use Rattle.rc_work.proofs.Imports.{list_any, word_texts, is_too_large, raw_values}
 use Rattle.rc_work.proofs.rules.raw_values.Given as goal
 
 abbrev pub invariant-loop-word : goal.invariant-loop-word

@@ -1,7 +1,5 @@
 use Rattle.std.proofs.Common.{◌≡◌, drop}
-use Rattle.std.specs.List.{list_all}
-use Rattle.rc_work.specs.LineForms.{word_texts}
-use Rattle.rc_work.specs.ShapeForms.{is_plain}
+use Rattle.rc_work.proofs.Imports.{list_all, word_texts, is_plain}
 use Rattle.rc_work.proofs.shape_forms.are_all_plain.Given as goal
 
 abbrev pub invariant-loop-word : goal.invariant-loop-word

@@ -1,6 +1,5 @@
 use Rattle.std.proofs.Common.{◌≡◌, drop}
-use Rattle.rc_work.specs.LineForms.{word_texts}
-use Rattle.rc_work.specs.ShapeForms.{has_mark}
+use Rattle.rc_work.proofs.Imports.{word_texts, has_mark}
 use Rattle.rc_work.proofs.shape_forms.has_mark.Given as goal
 
 abbrev pub invariant-loop-word : goal.invariant-loop-word

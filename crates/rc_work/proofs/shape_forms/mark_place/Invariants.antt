@@ -1,7 +1,5 @@
 use Rattle.std.proofs.Common.{◌≡◌, ◌+◌, drop}
-use Rattle.std.specs.List.{position_or_len}
-use Rattle.rc_work.specs.LineForms.{word_texts}
-use Rattle.rc_work.specs.ShapeForms.{is_mark}
+use Rattle.rc_work.proofs.Imports.{position_or_len, word_texts, is_mark}
 use Rattle.rc_work.proofs.shape_forms.mark_place.Given as goal
 
 abbrev pub invariant-loop-i : goal.invariant-loop-i

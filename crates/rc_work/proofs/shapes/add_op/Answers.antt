@@ -1,6 +1,4 @@
-use Rattle.std.proofs.Common.{arith}
-use Rattle.std.proofs.lemmas.Grind.{common_steps}
-use Rattle.rc_work.specs.LineRulesLaws.{length-raw_values}
+use Rattle.rc_work.proofs.Imports.{arith, common_steps, length-raw_values}
 use Rattle.rc_work.proofs.shapes.add_op.Goals as goal
 
 pub has_wrong_kind-requires : goal.has_wrong_kind-requires

@@ -1,7 +1,5 @@
 use Rattle.std.proofs.Common.{◌≡◌, ◌++◌, drop}
-use Rattle.rc_reader.specs.Forms.{texts}
-use Rattle.rc_work.specs.LineForms.{word_texts}
-use Rattle.rc_work.specs.ShapeForms.{plain_words}
+use Rattle.rc_work.proofs.Imports.{texts, word_texts, plain_words}
 use Rattle.rc_work.proofs.shapes.plain_words.Given as goal
 
 -- the words so far, and those that are left

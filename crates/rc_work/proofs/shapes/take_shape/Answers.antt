@@ -1,8 +1,4 @@
-use Rattle.std.proofs.Common.{length, sym, subst}
-use Rattle.rc_spec.specs.InRange.{IsOpAmong}
-use Rattle.rc_work.specs.OpenLaws.{IsOpAmong-shape_op}
-use Rattle.rc_work.specs.ShapeForms.{shape_text}
-use Rattle.rc_work.specs.declared.shapes.FoundShape.{FoundShape}
+use Rattle.rc_work.proofs.Imports.{length, sym, subst, IsOpAmong, IsOpAmong-shape_op, shape_text, FoundShape}
 use Rattle.rc_work.proofs.shapes.take_shape.Goals as goal
 
 pub add_op-requires-clause-known : goal.add_op-requires-clause-known

@@ -1,8 +1,5 @@
 use Rattle.std.proofs.Common.{◌≡◌, Ok, sym, ◌∙◌, subst}
-use Rattle.rc_reader.specs.Answers.{Refuses, refusal_at}
-use Rattle.rc_text.specs.Lines.{content_from, past_end_of}
-use Rattle.rc_work.specs.ShapesGrammar.{shapes_of}
-use Rattle.rc_work.specs.ShapesGrammarLaws.{shapes_of-are}
+use Rattle.rc_work.proofs.Imports.{Refuses, refusal_at, content_from, past_end_of, shapes_of, shapes_of-are}
 use Rattle.rc_work.proofs.ShapesReadingLemmas.{from_start, refused, whole}
 use Rattle.rc_work.proofs.shapes_text.read_shapes.Goals.{In-Ok}
 use Rattle.rc_work.proofs.shapes_text.read_shapes.Goals as goal

@@ -1,8 +1,5 @@
 use Rattle.std.proofs.Common.{◌++◌, ◌∷◌, [], ap, refl, sym, subst, ◌∙◌, arith}
-use Rattle.std.specs.Prelude.{IsSome}
-use Rattle.std.proofs.lemmas.Result.{err_from_is_err_and}
-use Rattle.std.specs.Option.{option_map}
-use Rattle.rc_audit.specs.Judging.{IsClosing}
+use Rattle.rc_audit.proofs.Imports.{IsSome, err_from_is_err_and, option_map, IsClosing}
 use Rattle.rc_audit.proofs.EntryLemmas.{meet_err}
 use Rattle.rc_audit.proofs.StageLemmas.{closing_bad, closing_found, closing_more, closing_more_bad}
 use Rattle.rc_audit.proofs.closing.Closing.judge_line.Goals as goal

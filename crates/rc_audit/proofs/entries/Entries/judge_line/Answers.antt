@@ -1,14 +1,5 @@
-use Rattle.std.specs.Vec.{with_items}
-use Rattle.std.proofs.lemmas.List.{with_items_is}
+use Rattle.rc_audit.proofs.Imports.{with_items, with_items_is, err_from_is_err_and, Fits, plain, Call, replay, HasGoneOn, IsAmong, round_at, Keeps}
 use Rattle.std.proofs.Common.{◌+◌, ◌++◌, ◌∷◌, [], None, Some, refl, sym, subst, ◌∙◌, arith}
-use Rattle.std.proofs.lemmas.Result.{err_from_is_err_and}
-use Rattle.rc_spec.specs.Calls.{Fits}
-use Rattle.rc_spec.specs.Plain.{plain}
-use Rattle.rc_spec.specs.declared.call.Call.{Call}
-use Rattle.rc_rel.specs.History.{replay}
-use Rattle.rc_audit.specs.Cursors.{HasGoneOn}
-use Rattle.rc_audit.specs.Judging.{IsAmong, round_at}
-use Rattle.rc_audit.specs.Keeping.{Keeps}
 use Rattle.rc_audit.proofs.EntryLemmas.{call_read, chosen_here, entry_met, entry_none, entry_other, few_done, few_tuples, meet_err, next_call, read_round, text_is}
 use Rattle.rc_audit.proofs.entries.Entries.judge_line.Goals as goal
 

@@ -1,7 +1,6 @@
 use Rattle.std.proofs.Common.{◌++◌, ◌∷◌, [], Bool, arith}
-use Rattle.std.proofs.lemmas.Result.{err_from_is_err_and}
+use Rattle.rc_audit.proofs.Imports.{err_from_is_err_and, HasPassed, IsAmong}
 use Rattle.rc_audit.specs.declared.stage.Stage.TheVariants as stages
-use Rattle.rc_audit.specs.Judging.{HasPassed, IsAmong}
 use Rattle.rc_audit.proofs.EntryLemmas.{meet_err}
 use Rattle.rc_audit.proofs.JudgeLemmas.{among_at, judges_err, opening_before, opening_is_bad}
 use Rattle.rc_audit.proofs.StageLemmas.{among_before}

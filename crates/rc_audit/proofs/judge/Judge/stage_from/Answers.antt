@@ -1,10 +1,5 @@
 use Rattle.std.proofs.Common.{◌<◌, ◌≤◌, [], get_or, length, refl, ap, subst, ◌∙◌, arith}
-use Rattle.std.proofs.lemmas.List.{get_or_default}
-use Rattle.rc_tuple.specs.RisingSetLaws.{each_in, get_or_in}
-use Rattle.rc_rel.specs.History.{replay}
-use Rattle.rc_work.specs.Made.{HasTurnsBelow}
-use Rattle.rc_audit.specs.Cursors.{HaveBegun}
-use Rattle.rc_audit.specs.Judging.{IsFirstFilled, round_at}
+use Rattle.rc_audit.proofs.Imports.{get_or_default, each_in, get_or_in, replay, HasTurnsBelow, HaveBegun, IsFirstFilled, round_at}
 use Rattle.rc_audit.proofs.StageLemmas.{among_first, closing_first, some_first}
 use Rattle.rc_audit.proofs.judge.Judge.stage_from.Goals as goal
 

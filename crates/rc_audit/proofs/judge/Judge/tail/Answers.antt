@@ -1,7 +1,5 @@
 use Rattle.std.proofs.Common.{sym, ap, subst, ◌∙◌}
-use Rattle.rc_work.specs.Report.{final_lines}
-use Rattle.rc_audit.specs.Judged.{lines_after}
-use Rattle.rc_audit.specs.Keeping.{Keeps}
+use Rattle.rc_audit.proofs.Imports.{final_lines, lines_after, Keeps}
 use Rattle.rc_audit.proofs.judge.Judge.tail.Goals as goal
 
 pub returns-in_ok-tuples-in-Run : goal.returns-in_ok-tuples-in-Run

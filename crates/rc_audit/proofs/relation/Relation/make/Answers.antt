@@ -1,6 +1,5 @@
 use Rattle.std.proofs.Common.{Err, ap, ◌∙◌}
-use Rattle.rc_instance.specs.InstanceLaws.{held_of-holding}
-use Rattle.rc_machine.specs.ReplyLaws.{replied_of}
+use Rattle.rc_audit.proofs.Imports.{held_of-holding, replied_of}
 use Rattle.rc_audit.proofs.RelationLemmas.{none_risen, of_relation_after, reply_is}
 use Rattle.rc_audit.proofs.relation.Relation.make.Goals as goal
 

@@ -1,12 +1,5 @@
 use Rattle.std.proofs.Common.{◌≡◌, ◌≤◌, Bool, true, false, not, inl, inr, subst, sym, ap, refl, ◌∙◌, arith}
-use Rattle.std.proofs.Math.Nat.{eq-or-lt_of_le}
-use Rattle.std.proofs.lemmas.Bool.{false≢true}
-use Rattle.rc_tuple.specs.RisingSet.{In}
-use Rattle.rc_tuple.specs.RisingSetLaws.{has_in}
-use Rattle.rc_tuple.specs.Tuple.{IsTuple, agree_on, get, project}
-use Rattle.rc_tuple.specs.TupleLaws.{same_from_test, test_from_same}
-use Rattle.rc_bindings.specs.Bindings.{OneBinding}
-use Rattle.rc_bindings.specs.RegistersLaws.{IsTuple-tuple_in, get-same, option_same, not_different, project-same_values}
+use Rattle.rc_bindings.proofs.Imports.{eq-or-lt_of_le, false≢true, In, has_in, IsTuple, agree_on, get, project, same_from_test, test_from_same, OneBinding, IsTuple-tuple_in, get-same, option_same, not_different, project-same_values}
 use Rattle.rc_bindings.proofs.binding.Binding.agrees_on.Goals as goal
 use Rattle.rc_bindings.proofs.binding.Binding.agrees_on.Goals.{else-has-via-then-has+else-ne, else-has-via-else-has}
 

@@ -1,6 +1,5 @@
 use Rattle.std.proofs.Common.{◌≡◌, ◌<◌, ℕ}
-use Rattle.rc_tuple.specs.RisingSet.{In}
-use Rattle.rc_tuple.specs.Tuple.{get}
+use Rattle.rc_bindings.proofs.Imports.{In, get}
 use Rattle.rc_bindings.proofs.binding.Binding.agrees_on.Given as goal
 
 abbrev pub invariant-loop-col : goal.invariant-loop-col

@@ -1,7 +1,5 @@
 use Rattle.std.proofs.Common.{◌≡◌, subst}
-use Rattle.rc_tuple.specs.Tuple.{IsTuple, cols_of}
-use Rattle.rc_bindings.specs.Bindings.{OneBinding}
-use Rattle.rc_bindings.specs.RegistersLaws.{IsTuple-tuple_in, cols_of-tuple_in}
+use Rattle.rc_bindings.proofs.Imports.{IsTuple, cols_of, OneBinding, IsTuple-tuple_in, cols_of-tuple_in}
 use Rattle.rc_bindings.proofs.binding.Binding.cols.Goals as goal
 
 pub returns-clause-of_tuple : goal.returns-clause-of_tuple

@@ -1,9 +1,5 @@
 use Rattle.std.proofs.Common.{cond, None, Some, ap, sym, ◌∙◌}
-use Rattle.rc_tuple.specs.RisingSetLaws.{in_has}
-use Rattle.rc_tuple.specs.Tuple.{get}
-use Rattle.rc_bindings.specs.Bindings.{OneBinding}
-use Rattle.rc_bindings.specs.Registers.{register}
-use Rattle.rc_bindings.specs.RegistersLaws.{get-tuple_in}
+use Rattle.rc_bindings.proofs.Imports.{in_has, get, OneBinding, register, get-tuple_in}
 use Rattle.rc_bindings.proofs.binding.Binding.get.Goals as goal
 
 pub bounds-self-inside-col : goal.bounds-self-inside-col

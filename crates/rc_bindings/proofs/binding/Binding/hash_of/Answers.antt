@@ -1,9 +1,5 @@
 use Rattle.std.proofs.Common.{◌≡◌, cond, ap, sym, ◌∙◌, arith}
-use Rattle.rc_tuple.specs.Tuple.{value}
-use Rattle.rc_spec.specs.Stripes.{hash_of, mix}
-use Rattle.rc_bindings.specs.Bindings.{OneBinding}
-use Rattle.rc_bindings.specs.Registers.{columns_below}
-use Rattle.rc_bindings.specs.RegistersLaws.{columns_below_all, hash_of_next}
+use Rattle.rc_bindings.proofs.Imports.{value, hash_of, mix, OneBinding, columns_below, columns_below_all, hash_of_next}
 use Rattle.rc_bindings.proofs.binding.Binding.hash_of.Goals as goal
 use Rattle.rc_bindings.proofs.binding.Binding.hash_of.Goals.{then-has, else-has}
 

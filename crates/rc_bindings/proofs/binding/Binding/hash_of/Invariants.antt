@@ -1,6 +1,5 @@
 use Rattle.std.proofs.Common.{◌≡◌}
-use Rattle.rc_spec.specs.Stripes.{hash_of}
-use Rattle.rc_bindings.specs.Registers.{columns_below}
+use Rattle.rc_bindings.proofs.Imports.{hash_of, columns_below}
 use Rattle.rc_bindings.proofs.binding.Binding.hash_of.Given as goal
 
 abbrev pub invariant-loop-col : goal.invariant-loop-col

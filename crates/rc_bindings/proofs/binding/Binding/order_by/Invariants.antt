@@ -1,6 +1,5 @@
 use Rattle.std.proofs.Common.{◌≡◌, drop}
-use Rattle.rc_tuple.specs.Tuple.{pick}
-use Rattle.rc_spec.specs.Plain.{row_cmp}
+use Rattle.rc_bindings.proofs.Imports.{pick, row_cmp}
 use Rattle.rc_bindings.proofs.binding.Binding.order_by.Given as goal
 
 -- what is left decides

@@ -1,6 +1,5 @@
 use Rattle.std.proofs.Common.{◌≡◌, ◌+◌, ◌-◌, ◌≤◌, ◌++◌, length, take}
-use Rattle.std.specs.Vec.{vec_len, vec_capacity}
-use Rattle.rc_tuple.specs.Tuple.{pick}
+use Rattle.rc_bindings.proofs.Imports.{vec_len, vec_capacity, pick}
 use Rattle.rc_bindings.proofs.binding.Binding.push_picked.Given as goal
 
 abbrev pub invariant-loop-col : goal.invariant-loop-col

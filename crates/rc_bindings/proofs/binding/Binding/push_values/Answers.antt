@@ -1,11 +1,5 @@
 use Rattle.std.proofs.Common.{◌++◌, ap, map, subst, sym, ◌∙◌}
-use Rattle.rc_tuple.specs.RisingSet.{In}
-use Rattle.rc_tuple.specs.ColSetLaws.{in_inter}
-use Rattle.rc_tuple.specs.ColSet.{inter}
-use Rattle.rc_tuple.specs.Tuple.{project}
-use Rattle.rc_bindings.specs.Bindings.{OneBinding}
-use Rattle.rc_bindings.specs.Registers.{register, values_of}
-use Rattle.rc_bindings.specs.RegistersLaws.{on_ok, project-tuple_in, values_of-tuple_in}
+use Rattle.rc_bindings.proofs.Imports.{In, in_inter, inter, project, OneBinding, register, values_of, on_ok, project-tuple_in, values_of-tuple_in}
 use Rattle.rc_bindings.proofs.binding.Binding.push_values.Goals as goal
 
 pub push_registers-requires-clause-below : goal.push_registers-requires-clause-below

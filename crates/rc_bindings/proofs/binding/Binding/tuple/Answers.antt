@@ -1,7 +1,5 @@
 use Rattle.std.proofs.Common.{ap, ◌∙◌}
-use Rattle.std.specs.List.{zip}
-use Rattle.rc_bindings.specs.Bindings.{OneBinding}
-use Rattle.rc_bindings.specs.RegistersLaws.{if_ok, zip-registers}
+use Rattle.rc_bindings.proofs.Imports.{zip, OneBinding, if_ok, zip-registers}
 use Rattle.rc_bindings.proofs.binding.Binding.tuple.Goals as goal
 
 pub returns : goal.returns

@@ -1,10 +1,5 @@
 use Rattle.std.proofs.Common.{cond, None, Some, ap, sym, ◌∙◌}
-use Rattle.std.specs.Option.{unwrap_or}
-use Rattle.rc_tuple.specs.RisingSetLaws.{in_has}
-use Rattle.rc_tuple.specs.Tuple.{value}
-use Rattle.rc_bindings.specs.Bindings.{OneBinding}
-use Rattle.rc_bindings.specs.Registers.{register}
-use Rattle.rc_bindings.specs.RegistersLaws.{get-tuple_in}
+use Rattle.rc_bindings.proofs.Imports.{unwrap_or, in_has, value, OneBinding, register, get-tuple_in}
 use Rattle.rc_bindings.proofs.binding.Binding.value.Goals as goal
 
 pub bounds-self-inside-col : goal.bounds-self-inside-col

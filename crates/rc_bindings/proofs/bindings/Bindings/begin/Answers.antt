@@ -1,6 +1,4 @@
-use Rattle.std.proofs.Common.{subst, sym}
-use Rattle.rc_spec.specs.InRange.{AreBelow}
-use Rattle.rc_bindings.specs.Bindings.{BindingList}
+use Rattle.rc_bindings.proofs.Imports.{subst, sym, AreBelow, BindingList}
 use Rattle.rc_bindings.proofs.bindings.Bindings.begin.Goals as goal
 
 pub invariant_of-self : goal.invariant_of-self

@@ -1,8 +1,5 @@
 use Rattle.std.proofs.Common.{◌≡◌, subst}
-use Rattle.rc_tuple.specs.RisingSet.{In}
-use Rattle.rc_tuple.specs.Tuple.{Pairs, cols_of}
-use Rattle.rc_bindings.specs.Bindings.{BindingList}
-use Rattle.rc_bindings.specs.BindingsLaws.{in_tuples_in}
+use Rattle.rc_bindings.proofs.Imports.{In, Pairs, cols_of, BindingList, in_tuples_in}
 use Rattle.rc_bindings.proofs.bindings.Bindings.cols.Goals as goal
 
 pub returns-clause-tuples : goal.returns-clause-tuples

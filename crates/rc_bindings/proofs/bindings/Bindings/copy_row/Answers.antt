@@ -1,8 +1,5 @@
 use Rattle.std.proofs.Common.{◌≡◌, ◌+◌, ◌*◌, ◌-◌, ◌<◌, ◌≤◌, ◌++◌, List, ℕ, [], ap, drop, get_or, length, refl, set, sym, take, ◌∙◌, arith}
-use Rattle.std.proofs.Math.Nat.{mul-le-mul_right}
-use Rattle.std.proofs.lemmas.List.{append_assoc, length-drop, length-take-le}
-use Rattle.rc_bindings.specs.Bindings.{BindingList, seen_list, tuples_in, with_tuples}
-use Rattle.rc_bindings.specs.BindingsLaws.{length-tuples_in, row_set, row_within, rows_as_long, tuple_at}
+use Rattle.rc_bindings.proofs.Imports.{mul-le-mul_right, append_assoc, length-drop, length-take-le, BindingList, seen_list, tuples_in, with_tuples, length-tuples_in, row_set, row_within, rows_as_long, tuple_at}
 use Rattle.rc_bindings.proofs.bindings.Bindings.copy_row.Goals as goal
 use Rattle.rc_bindings.proofs.bindings.Bindings.copy_row.Goals.{After-copy_within, After-self}
 

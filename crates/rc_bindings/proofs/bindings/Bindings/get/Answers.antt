@@ -1,9 +1,5 @@
 use Rattle.std.proofs.Common.{◌≡◌, ◌+◌, ◌*◌, ◌-◌, ◌<◌, ◌≤◌, [], ap, drop, get_or, length, subst, sym, take, ◌∙◌, arith}
-use Rattle.std.proofs.lemmas.List.{length-drop, length-take-le}
-use Rattle.rc_spec.specs.InRange.{IsSetBelow}
-use Rattle.rc_bindings.specs.Bindings.{BindingList}
-use Rattle.rc_bindings.specs.Registers.{tuple_in}
-use Rattle.rc_bindings.specs.BindingsLaws.{length-tuples_in, row_within, tuple_at}
+use Rattle.rc_bindings.proofs.Imports.{length-drop, length-take-le, IsSetBelow, BindingList, tuple_in, length-tuples_in, row_within, tuple_at}
 use Rattle.rc_bindings.proofs.bindings.Bindings.get.Goals as goal
 use Rattle.rc_bindings.proofs.bindings.Bindings.get.Goals.{After-self, After-part}
 

@@ -1,9 +1,5 @@
 use Rattle.std.proofs.Common.{◌≡◌, ◌+◌, ◌<◌, List, ap, get_or, length, set, subst, sym, ◌∙◌, arith}
-use Rattle.std.proofs.lemmas.List.{get_or_default}
-use Rattle.std.proofs.lemmas.List.Filters.{FiltersInPlace, FiltersInPlace-more_no, FiltersInPlace-more_set}
-use Rattle.rc_tuple.specs.Tuple.{Pairs}
-use Rattle.rc_spec.specs.Ranges.{in_ranges}
-use Rattle.rc_bindings.specs.Bindings.{BindingList, with_tuples}
+use Rattle.rc_bindings.proofs.Imports.{get_or_default, FiltersInPlace, FiltersInPlace-more_no, FiltersInPlace-more_set, Pairs, in_ranges, BindingList, with_tuples}
 use Rattle.rc_bindings.proofs.bindings.Bindings.keep_in_ranges.Goals as goal
 use Rattle.rc_bindings.proofs.bindings.Bindings.keep_in_ranges.Goals.{else-is_in_ranges, then-is_in_ranges}
 

@@ -1,7 +1,5 @@
 use Rattle.std.proofs.Common.{◌≡◌}
-use Rattle.std.proofs.lemmas.List.Filters.{FiltersInPlace}
-use Rattle.rc_spec.specs.Ranges.{in_ranges}
-use Rattle.rc_bindings.specs.Bindings.{with_tuples}
+use Rattle.rc_bindings.proofs.Imports.{FiltersInPlace, in_ranges, with_tuples}
 use Rattle.rc_bindings.proofs.bindings.Bindings.keep_in_ranges.Given as goal
 
 abbrev pub invariant-loop-at : goal.invariant-loop-at

@@ -1,6 +1,5 @@
 use Rattle.std.proofs.Common.{◌≡◌, length, subst, sym}
-use Rattle.rc_bindings.specs.Bindings.{BindingList}
-use Rattle.rc_bindings.specs.BindingsLaws.{length-tuples_in}
+use Rattle.rc_bindings.proofs.Imports.{BindingList, length-tuples_in}
 use Rattle.rc_bindings.proofs.bindings.Bindings.len.Goals as goal
 
 pub returns : goal.returns

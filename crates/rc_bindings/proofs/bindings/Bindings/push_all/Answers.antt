@@ -1,14 +1,5 @@
 use Rattle.std.proofs.Common.{◌≡◌, ◌<◌, ◌+◌, ◌*◌, ◌/◌, ◌++◌, ◌∷◌, [], List, ℕ, length, suc, take, true, subst, sym, ap, ◌∙◌, arith}
-use Rattle.std.proofs.Math.Nat.{add-div_left, suc-mul}
-use Rattle.std.proofs.lemmas.List.{length-append}
-use Rattle.std.specs.Slice.Iter.{chunks_exact_rest}
-use Rattle.rc_tuple.specs.RisingSet.{In}
-use Rattle.rc_tuple.specs.Tuple.{Pairs, merges_of}
-use Rattle.rc_spec.specs.InRange.{IsSetBelow}
-use Rattle.rc_bindings.specs.Bindings.{BindingList, IsRowWith, OneBinding, TakesRows, given, seen_list}
-use Rattle.rc_bindings.specs.BindingsLaws.{AreBindings-push, HasPushed, all_pushed, cols_of-given, count_within, merged_row, next_row, tuples_in-push}
-use Rattle.rc_bindings.specs.Registers.{all_written, fits_all, tuple_in}
-use Rattle.rc_bindings.specs.RegistersLaws.{fits_apart, has_not, length-all_written}
+use Rattle.rc_bindings.proofs.Imports.{add-div_left, suc-mul, length-append, chunks_exact_rest, In, Pairs, merges_of, IsSetBelow, BindingList, IsRowWith, OneBinding, TakesRows, given, seen_list, AreBindings-push, HasPushed, all_pushed, cols_of-given, count_within, merged_row, next_row, tuples_in-push, all_written, fits_all, tuple_in, fits_apart, has_not, length-all_written}
 use Rattle.rc_bindings.proofs.bindings.Bindings.push_all.Goals as goal
 use Rattle.rc_bindings.proofs.bindings.Bindings.push_all.Goals.{After-split_at}
 

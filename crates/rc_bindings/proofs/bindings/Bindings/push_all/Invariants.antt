@@ -1,11 +1,5 @@
 use Rattle.std.proofs.Common.{◌≡◌, ◌+◌, ◌*◌, ◌/◌, ◌≤◌, List, length}
-use Rattle.std.specs.List.{flat_map}
-use Rattle.std.specs.Slice.Iter.{chunks_exact_rest, chunks_exact_size}
-use Rattle.std.specs.Vec.{vec_len, vec_capacity}
-use Rattle.rc_tuple.specs.RisingSet.{In}
-use Rattle.rc_tuple.specs.Tuple.{Pairs}
-use Rattle.rc_bindings.specs.Bindings.{AreBindings, IsGivenBy, key_and_extra, seen_list}
-use Rattle.rc_bindings.specs.BindingsLaws.{HasPushed}
+use Rattle.rc_bindings.proofs.Imports.{flat_map, chunks_exact_rest, chunks_exact_size, vec_len, vec_capacity, In, Pairs, AreBindings, IsGivenBy, key_and_extra, seen_list, HasPushed}
 use Rattle.rc_bindings.proofs.bindings.Bindings.push_all.Given as goal
 
 abbrev pub invariant-loop-row : goal.invariant-loop-row

@@ -1,14 +1,5 @@
 use Rattle.std.proofs.Common.{◌≡◌, ◌<◌, ◌++◌, ◌∷◌, [], List, ℕ, drop, length, refl, take, subst, sym, ap, ◌∙◌, arith}
-use Rattle.std.proofs.lemmas.List.{with_items_is}
-use Rattle.std.specs.Ordering.{nat_cmp}
-use Rattle.rc_tuple.specs.RisingSet.{In, IsRising}
-use Rattle.rc_tuple.specs.RisingSetLaws.{map_in}
-use Rattle.rc_tuple.specs.Tuple.{Pairs, cols_of, project}
-use Rattle.rc_tuple.specs.TupleLaws.{cols-project}
-use Rattle.rc_bindings.specs.Bindings.{BindingList, seen_list, with_tuples}
-use Rattle.rc_bindings.specs.BindingsLaws.{AreBindings-push, count_within, tuples_in-push, written_behind}
-use Rattle.rc_bindings.specs.Registers.{all_written, tuple_in}
-use Rattle.rc_bindings.specs.RegistersLaws.{length-all_written, tuple_in-written}
+use Rattle.rc_bindings.proofs.Imports.{with_items_is, nat_cmp, In, IsRising, map_in, Pairs, cols_of, project, cols-project, BindingList, seen_list, with_tuples, AreBindings-push, count_within, tuples_in-push, written_behind, all_written, tuple_in, length-all_written, tuple_in-written}
 use Rattle.rc_bindings.proofs.bindings.Bindings.push_projection.Goals as goal
 use Rattle.rc_bindings.proofs.bindings.Bindings.push_projection.Goals.{After-write}
 

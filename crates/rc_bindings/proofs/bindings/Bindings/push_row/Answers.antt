@@ -1,13 +1,5 @@
 use Rattle.std.proofs.Common.{◌≡◌, ◌<◌, ◌++◌, ◌∷◌, ◌&&◌, [], List, ℕ, Bool, true, false, length, refl, subst, sym, ap, ◌∙◌, arith}
-use Rattle.std.proofs.lemmas.Bool.{and_from}
-use Rattle.std.proofs.lemmas.List.{append-nil}
-use Rattle.std.specs.List.{zip}
-use Rattle.rc_tuple.specs.RisingSet.{In}
-use Rattle.rc_tuple.specs.Tuple.{Pairs, merges_of}
-use Rattle.rc_bindings.specs.Bindings.{BindingList, IsRowWith, OneBinding, TakesRows, given, seen_list, with_tuples}
-use Rattle.rc_bindings.specs.BindingsLaws.{AreBindings-push, count_within, merged_row, no_merge, tuples_in-push}
-use Rattle.rc_bindings.specs.Registers.{all_written, fits_all}
-use Rattle.rc_bindings.specs.RegistersLaws.{fits_all-append, length-all_written}
+use Rattle.rc_bindings.proofs.Imports.{and_from, append-nil, zip, In, Pairs, merges_of, BindingList, IsRowWith, OneBinding, TakesRows, given, seen_list, with_tuples, AreBindings-push, count_within, merged_row, no_merge, tuples_in-push, all_written, fits_all, fits_all-append, length-all_written}
 use Rattle.rc_bindings.proofs.bindings.Bindings.push_row.Goals as goal
 use Rattle.rc_bindings.proofs.bindings.Bindings.push_row.Goals.{After-binding, After-push_merged}
 

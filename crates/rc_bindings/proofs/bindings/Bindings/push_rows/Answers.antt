@@ -1,13 +1,5 @@
 use Rattle.std.proofs.Common.{◌≡◌, ◌<◌, inl, inr, length, take, subst, sym, ap, ◌∙◌}
-use Rattle.std.proofs.lemmas.Bool.{eqb-true, false≢true}
-use Rattle.std.specs.Slice.Iter.{chunks_exact_rest}
-use Rattle.rc_tuple.specs.ColSet.{inter, union}
-use Rattle.rc_tuple.specs.ColSetLaws.{union_left, union_right}
-use Rattle.rc_tuple.specs.RisingSet.{In}
-use Rattle.rc_tuple.specs.RisingSetLaws.{has_in, in_append}
-use Rattle.rc_bindings.specs.Bindings.{BindingList, IsRowWith, OneBinding, TakesRows, given, with_tuples}
-use Rattle.rc_bindings.specs.BindingsLaws.{HasPushed, all_pushed, next_row}
-use Rattle.rc_bindings.specs.RegistersLaws.{none_shared}
+use Rattle.rc_bindings.proofs.Imports.{eqb-true, false≢true, chunks_exact_rest, inter, union, union_left, union_right, In, has_in, in_append, BindingList, IsRowWith, OneBinding, TakesRows, given, with_tuples, HasPushed, all_pushed, next_row, none_shared}
 use Rattle.rc_bindings.proofs.bindings.Bindings.push_rows.Goals as goal
 
 pub push_all-requires-clause-free : goal.push_all-requires-clause-free

@@ -1,10 +1,5 @@
 use Rattle.std.proofs.Common.{◌≡◌, ◌+◌, List}
-use Rattle.std.specs.List.{flat_map}
-use Rattle.std.specs.Slice.Iter.{chunks_exact_rest, chunks_exact_size}
-use Rattle.rc_tuple.specs.RisingSet.{In}
-use Rattle.rc_tuple.specs.Tuple.{Pairs}
-use Rattle.rc_bindings.specs.Bindings.{IsGivenBy, key_and_extra, with_tuples}
-use Rattle.rc_bindings.specs.BindingsLaws.{HasPushed}
+use Rattle.rc_bindings.proofs.Imports.{flat_map, chunks_exact_rest, chunks_exact_size, In, Pairs, IsGivenBy, key_and_extra, with_tuples, HasPushed}
 use Rattle.rc_bindings.proofs.bindings.Bindings.push_rows.Given as goal
 
 abbrev pub invariant-loop-row : goal.invariant-loop-row

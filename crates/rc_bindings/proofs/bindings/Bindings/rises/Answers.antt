@@ -1,14 +1,5 @@
 use Rattle.std.proofs.Common.{◌≡◌, ◌∷◌, ◌++◌, ◌↔◌, List, ap, inl, is_lt, refl, subst, sym, true, ◌∙◌}
-use Rattle.std.proofs.lemmas.Bool.{false≢true}
-use Rattle.std.specs.Slice.Iter.{chunks_exact_rest, chunks_exact_size}
-use Rattle.std.specs.declared.cmp.Ordering.{Ordering}
-use Rattle.std.specs.declared.cmp.Ordering.TheVariants.{Less, Equal, Greater}
-use Rattle.rc_tuple.specs.RisingSet.{IsRising}
-use Rattle.rc_tuple.specs.Tuple.{Pairs, tuple_cmp}
-use Rattle.rc_tuple.specs.TupleLaws.{tuple_order}
-use Rattle.rc_bindings.specs.Bindings.{BindingList, tuples_in}
-use Rattle.rc_bindings.specs.BindingsLaws.{HasFirst, first_row, rising_behind}
-use Rattle.rc_bindings.specs.Registers.{tuple_in}
+use Rattle.rc_bindings.proofs.Imports.{false≢true, chunks_exact_rest, chunks_exact_size, Ordering, Less, Equal, Greater, IsRising, Pairs, tuple_cmp, tuple_order, BindingList, tuples_in, HasFirst, first_row, rising_behind, tuple_in}
 use Rattle.rc_bindings.proofs.bindings.Bindings.rises.Goals as goal
 use Rattle.rc_bindings.proofs.bindings.Bindings.rises.Goals.{In-Some-later}
 

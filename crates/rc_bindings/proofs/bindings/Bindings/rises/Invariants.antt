@@ -1,9 +1,5 @@
 use Rattle.std.proofs.Common.{◌≡◌, ◌∷◌, ◌↔◌, ℕ, length}
-use Rattle.std.specs.Slice.Iter.{chunks_exact_rest, chunks_exact_size}
-use Rattle.rc_tuple.specs.RisingSet.{IsRising}
-use Rattle.rc_tuple.specs.Tuple.{tuple_cmp}
-use Rattle.rc_bindings.specs.Bindings.{AreRows, tuples_in}
-use Rattle.rc_bindings.specs.Registers.{tuple_in}
+use Rattle.rc_bindings.proofs.Imports.{chunks_exact_rest, chunks_exact_size, IsRising, tuple_cmp, AreRows, tuples_in, tuple_in}
 use Rattle.rc_bindings.proofs.bindings.Bindings.rises.Given as goal
 
 -- all rise where the rest does, behind the row before it

@@ -1,13 +1,5 @@
 use Rattle.std.proofs.Common.{◌≡◌, ◌+◌, ◌<◌, ◌++◌, ◌∷◌, [], List, suc, get_or, length, subst, sym, ap, take, ◌∙◌, arith}
-use Rattle.std.proofs.Math.Seq.{take-suc}
-use Rattle.std.proofs.lemmas.List.{take_all}
-use Rattle.rc_tuple.specs.MergeLaws.{project_all}
-use Rattle.rc_tuple.specs.RisingSet.{In, IsRising, gather}
-use Rattle.rc_tuple.specs.RisingSetLaws.{gather-rising, get_or_in, in_gather}
-use Rattle.rc_tuple.specs.Tuple.{Pairs, cols_of, pair_cmp, project, tuple_cmp}
-use Rattle.rc_tuple.specs.TupleLaws.{tuple_order}
-use Rattle.rc_bindings.specs.Bindings.{BindingList, with_tuples}
-use Rattle.rc_bindings.specs.BindingsLaws.{in_tuples_in, rising_tuples_in}
+use Rattle.rc_bindings.proofs.Imports.{take-suc, take_all, project_all, In, IsRising, gather, gather-rising, get_or_in, in_gather, Pairs, cols_of, pair_cmp, project, tuple_cmp, tuple_order, BindingList, with_tuples, in_tuples_in, rising_tuples_in}
 use Rattle.rc_bindings.proofs.bindings.Bindings.sort.Goals as goal
 use Rattle.rc_bindings.proofs.bindings.Bindings.sort.Goals.{In-loop-tuple, Joined-then-len-lt2, then-len-lt2-via-else-len-lt2+then-rises, then-len-lt2-via-then-len-lt2}
 

@@ -1,7 +1,5 @@
 use Rattle.std.proofs.Common.{◌≡◌, ◌*◌, ◌≤◌, ap, length, refl, subst, sym, take, ◌∙◌, arith}
-use Rattle.std.proofs.Math.Nat.{mul-le-mul_right}
-use Rattle.rc_bindings.specs.Bindings.{AreRows, BindingList, seen_list, tuples_in, with_tuples}
-use Rattle.rc_bindings.specs.BindingsLaws.{first_rows, first_tuples, length-rows, length-tuples_in}
+use Rattle.rc_bindings.proofs.Imports.{mul-le-mul_right, AreRows, BindingList, seen_list, tuples_in, with_tuples, first_rows, first_tuples, length-rows, length-tuples_in}
 use Rattle.rc_bindings.proofs.bindings.Bindings.truncate.Goals as goal
 use Rattle.rc_bindings.proofs.bindings.Bindings.truncate.Goals.{After-self}
 

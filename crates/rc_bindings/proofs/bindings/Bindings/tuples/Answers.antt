@@ -1,8 +1,5 @@
 use Rattle.std.proofs.Common.{◌≡◌, ◌+◌, ◌++◌, ◌∷◌, [], ap, get_or, length, suc, sym, take, ◌∙◌, arith}
-use Rattle.std.proofs.Math.Seq.{take-suc}
-use Rattle.std.proofs.lemmas.List.{take_all}
-use Rattle.rc_bindings.specs.Bindings.{BindingList}
-use Rattle.rc_bindings.specs.BindingsLaws.{length-tuples_in}
+use Rattle.rc_bindings.proofs.Imports.{take-suc, take_all, BindingList, length-tuples_in}
 use Rattle.rc_bindings.proofs.bindings.Bindings.tuples.Goals as goal
 use Rattle.rc_bindings.proofs.bindings.Bindings.tuples.Goals.{After-self}
 

@@ -1,6 +1,5 @@
 use Rattle.std.proofs.Common.{◌<◌, ◌≤◌, length, arith}
-use Rattle.rc_spec.specs.declared.items.Edge.{Edge}
-use Rattle.rc_spec.specs.InRange.{IsEdgeAmong}
+use Rattle.rc_check.proofs.Imports.{Edge, IsEdgeAmong}
 use Rattle.rc_check.proofs.progress.ProgressSets.after.Goals as goal
 
 pub after_read-requires-clause-few : goal.after_read-requires-clause-few

@@ -1,6 +1,5 @@
 use Rattle.std.proofs.Common.{ap, ◌∙◌}
-use Rattle.rc_edges.specs.ListMap.{rows_in}
-use Rattle.rc_edges.specs.ListMapLaws.{rows-none}
+use Rattle.rc_edges.proofs.Imports.{rows_in, rows-none}
 use Rattle.rc_edges.proofs.list_map.ListMap.new.Goals as goal
 
 pub returns : goal.returns

@@ -1,12 +1,6 @@
 use Rattle.std.proofs.Common.{◌≡◌, ◌+◌, ◌<◌, ◌^◌, None, Some, sym, ap, subst, ◌∙◌}
-use Rattle.std.specs.Prelude.{insert}
-use Rattle.std.specs.Option.{option_and_then}
+use Rattle.rc_edges.proofs.Imports.{insert, option_and_then, Values, Counted, HasExtra, count_of, present, Items, IsAt, IsGap, IsKeyed, rows_in, get_at, get_none, put_in, set_at, writes_at, writes_gap, on_ok, if_ok}
 use Rattle.std.specs.FinMap as fin
-use Rattle.rc_edges.specs.Values.{Values}
-use Rattle.rc_edges.specs.EdgeMap.{Counted, HasExtra, count_of, present}
-use Rattle.rc_edges.specs.ListMap.{Items, IsAt, IsGap, IsKeyed, rows_in}
-use Rattle.rc_edges.specs.ListMapLaws.{get_at, get_none, put_in, set_at, writes_at, writes_gap}
-use Rattle.rc_edges.specs.OneMapLaws.{on_ok, if_ok}
 use Rattle.rc_edges.proofs.list_map.ListMapEdgeMap.add.Goals as goal
 use Rattle.rc_edges.proofs.list_map.ListMapEdgeMap.add.Goals.{In-Err, After-index_mut-item}
 

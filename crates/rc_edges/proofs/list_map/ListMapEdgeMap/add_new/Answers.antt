@@ -1,12 +1,6 @@
 use Rattle.std.proofs.Common.{◌≡◌, None, Some, sym, ap, subst, ◌∙◌}
-use Rattle.std.specs.Prelude.{insert}
+use Rattle.rc_edges.proofs.Imports.{insert, Values, Counted, Items, IsAt, IsGap, IsKeyed, rows_in, get_at, get_none, put_in, set_at, writes_at, writes_gap, if_ok, started_at, started_new}
 use Rattle.std.specs.FinMap as fin
-use Rattle.rc_edges.specs.Values.{Values}
-use Rattle.rc_edges.specs.EdgeMap.{Counted}
-use Rattle.rc_edges.specs.ListMap.{Items, IsAt, IsGap, IsKeyed, rows_in}
-use Rattle.rc_edges.specs.ListMapLaws.{get_at, get_none, put_in, set_at, writes_at, writes_gap}
-use Rattle.rc_edges.specs.OneMapLaws.{if_ok}
-use Rattle.rc_edges.specs.RowsLaws.{started_at, started_new}
 use Rattle.rc_edges.proofs.list_map.ListMapEdgeMap.add_new.Goals as goal
 use Rattle.rc_edges.proofs.list_map.ListMapEdgeMap.add_new.Goals.{In-Err, After-index_mut-item}
 

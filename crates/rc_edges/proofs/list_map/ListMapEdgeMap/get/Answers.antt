@@ -1,7 +1,5 @@
 use Rattle.std.proofs.Common.{sym, ap, subst, ◌∙◌}
-use Rattle.rc_edges.specs.EdgeMap.{extra_of}
-use Rattle.rc_edges.specs.ListMap.{IsAt, IsGap}
-use Rattle.rc_edges.specs.ListMapLaws.{found_at, found_none}
+use Rattle.rc_edges.proofs.Imports.{extra_of, IsAt, IsGap, found_at, found_none}
 use Rattle.rc_edges.proofs.list_map.ListMapEdgeMap.get.Goals as goal
 
 pub returns-in-Ok : goal.returns-in-Ok

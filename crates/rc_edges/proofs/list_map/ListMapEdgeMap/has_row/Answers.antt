@@ -1,11 +1,7 @@
 use Rattle.std.proofs.Common.{◌<◌, ap, subst, ◌∙◌}
 use Rattle.std.specs.Prelude.{◌↔◌}
-use Rattle.std.specs.Bool.{IsTrue}
-use Rattle.std.specs.List.{list_any}
+use Rattle.rc_edges.proofs.Imports.{IsTrue, list_any, Rows, current, is_filled, has_row-items}
 use Rattle.std.specs.FinMap as fin
-use Rattle.rc_edges.specs.EdgeMap.{Rows, current}
-use Rattle.rc_edges.specs.ListMap.{is_filled}
-use Rattle.rc_edges.specs.ListMapLaws.{has_row-items}
 use Rattle.rc_edges.proofs.list_map.ListMapEdgeMap.has_row.Goals as goal
 
 pub returns : goal.returns

@@ -1,7 +1,6 @@
 use Rattle.std.proofs.Common.{◌≡◌, length, sym, ap, ◌∙◌}
 use Rattle.std.specs.Prelude.{◌==◌}
-use Rattle.rc_edges.specs.ListMap.{Items}
-use Rattle.rc_edges.specs.ListMapLaws.{gone_rows}
+use Rattle.rc_edges.proofs.Imports.{Items, gone_rows}
 use Rattle.rc_edges.proofs.list_map.ListMapEdgeMap.is_gone.Goals as goal
 
 pub returns : goal.returns

@@ -1,8 +1,6 @@
 use Rattle.std.proofs.Common.{sym, ap, ◌∙◌}
 use Rattle.std.specs.FinMap as fin
-use Rattle.rc_edges.specs.EdgeMap.{Rows, current}
-use Rattle.rc_edges.specs.ListMap.{count_in}
-use Rattle.rc_edges.specs.ListMapLaws.{len-rows}
+use Rattle.rc_edges.proofs.Imports.{Rows, current, count_in, len-rows}
 use Rattle.rc_edges.proofs.list_map.ListMapEdgeMap.len.Goals as goal
 
 pub returns : goal.returns

@@ -1,8 +1,6 @@
 use Rattle.std.proofs.Common.{ap, subst, ◌∙◌}
 use Rattle.std.specs.FinMap as fin
-use Rattle.rc_edges.specs.EdgeMap.{HasAsMany}
-use Rattle.rc_edges.specs.ListMap.{IsAt, IsGap}
-use Rattle.rc_edges.specs.ListMapLaws.{get_at, get_none, set_at, writes_at}
+use Rattle.rc_edges.proofs.Imports.{HasAsMany, IsAt, IsGap, get_at, get_none, set_at, writes_at}
 use Rattle.rc_edges.proofs.list_map.ListMapEdgeMap.put_back.Goals as goal
 use Rattle.rc_edges.proofs.list_map.ListMapEdgeMap.put_back.Goals.{After-index_mut-item}
 

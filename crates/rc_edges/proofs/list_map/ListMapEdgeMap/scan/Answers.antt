@@ -1,7 +1,5 @@
 use Rattle.std.proofs.Common.{◌++◌, sym, ap, ◌∙◌}
-use Rattle.rc_edges.specs.EdgeMap.{Rows, listed}
-use Rattle.rc_edges.specs.ListMap.{values_in}
-use Rattle.rc_edges.specs.ListMapLaws.{listed-rows}
+use Rattle.rc_edges.proofs.Imports.{Rows, listed, values_in, listed-rows}
 use Rattle.rc_edges.proofs.list_map.ListMapEdgeMap.scan.Goals as goal
 
 pub returns-in-Ok-clause-ok : goal.returns-in-Ok-clause-ok

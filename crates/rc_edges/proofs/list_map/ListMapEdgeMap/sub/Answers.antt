@@ -1,12 +1,6 @@
 use Rattle.std.proofs.Common.{◌≡◌, Some, sym, ap, subst, ◌∙◌}
 use Rattle.std.specs.FinMap as fin
-use Rattle.std.specs.Prelude.{IsSome}
-use Rattle.std.specs.Option.{option_and_then}
-use Rattle.std.proofs.lemmas.Bool.{false≢true}
-use Rattle.rc_edges.specs.EdgeMap.{count_of, one_less, present, written}
-use Rattle.rc_edges.specs.ListMap.{IsAt, IsGap}
-use Rattle.rc_edges.specs.ListMapLaws.{found_none, get_at, set_at, writes_at}
-use Rattle.rc_edges.specs.RowsLaws.{counts}
+use Rattle.rc_edges.proofs.Imports.{IsSome, option_and_then, false≢true, count_of, one_less, present, written, IsAt, IsGap, found_none, get_at, set_at, writes_at, counts}
 use Rattle.rc_edges.proofs.list_map.ListMapEdgeMap.sub.Goals as goal
 use Rattle.rc_edges.proofs.list_map.ListMapEdgeMap.sub.Goals.{After-index_mut-item}
 

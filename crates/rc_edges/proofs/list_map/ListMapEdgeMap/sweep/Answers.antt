@@ -1,8 +1,5 @@
 use Rattle.std.proofs.Common.{arith, ◌≡◌, sym, ap, subst, ◌∙◌}
-use Rattle.std.proofs.lemmas.Grind.{common_steps}
-use Rattle.rc_edges.specs.EdgeMap.{swept}
-use Rattle.rc_edges.specs.ListMap.{IsAt, IsGap, IsKeyed, rows_in}
-use Rattle.rc_edges.specs.ListMapLaws.{get_at, get_none, swept_filled, swept_none, swept_out, writes_out}
+use Rattle.rc_edges.proofs.Imports.{common_steps, swept, IsAt, IsGap, IsKeyed, rows_in, get_at, get_none, swept_filled, swept_none, swept_out, writes_out}
 use Rattle.rc_edges.proofs.list_map.ListMapEdgeMap.sweep.Goals as goal
 use Rattle.rc_edges.proofs.list_map.ListMapEdgeMap.sweep.Goals.{After-index-item, After-remove}
 

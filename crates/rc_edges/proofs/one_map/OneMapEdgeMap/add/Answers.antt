@@ -1,11 +1,6 @@
 use Rattle.std.proofs.Common.{◌≡◌, ◌+◌, ◌<◌, ◌^◌, None, [], Some, insert, sym, ap, subst, ◌∙◌}
-use Rattle.std.specs.Option.{option_and_then}
+use Rattle.rc_edges.proofs.Imports.{option_and_then, Values, Counted, HasExtra, count_of, present, rows_in, get_none, put_in, alone, in_place, no_place, is_own, on_ok, if_ok, own_get, set_own}
 use Rattle.std.specs.FinMap as fin
-use Rattle.rc_edges.specs.Values.{Values}
-use Rattle.rc_edges.specs.EdgeMap.{Counted, HasExtra, count_of, present}
-use Rattle.rc_edges.specs.ListMap.{rows_in}
-use Rattle.rc_edges.specs.ListMapLaws.{get_none, put_in}
-use Rattle.rc_edges.specs.OneMapLaws.{alone, in_place, no_place, is_own, on_ok, if_ok, own_get, set_own}
 use Rattle.rc_edges.proofs.one_map.OneMapEdgeMap.add.Goals as goal
 use Rattle.rc_edges.proofs.one_map.OneMapEdgeMap.add.Goals.{In_default, Then-eq}
 

@@ -1,11 +1,6 @@
 use Rattle.std.proofs.Common.{◌≡◌, None, [], Some, insert, ap, ◌∙◌}
 use Rattle.std.specs.FinMap as fin
-use Rattle.rc_edges.specs.Values.{Values}
-use Rattle.rc_edges.specs.EdgeMap.{Counted}
-use Rattle.rc_edges.specs.ListMap.{rows_in}
-use Rattle.rc_edges.specs.ListMapLaws.{get_none, put_in}
-use Rattle.rc_edges.specs.OneMapLaws.{alone, in_place, no_place, is_own, if_ok, own_get, set_own}
-use Rattle.rc_edges.specs.RowsLaws.{started_at, started_new}
+use Rattle.rc_edges.proofs.Imports.{Values, Counted, rows_in, get_none, put_in, alone, in_place, no_place, is_own, if_ok, own_get, set_own, started_at, started_new}
 use Rattle.rc_edges.proofs.one_map.OneMapEdgeMap.add_new.Goals as goal
 use Rattle.rc_edges.proofs.one_map.OneMapEdgeMap.add_new.Goals.{In_default, Then-eq}
 

@@ -1,10 +1,5 @@
 use Rattle.std.proofs.Common.{◌≡◌, [], sym, ap, ◌∙◌}
-use Rattle.std.specs.Option.{option_and_then}
-use Rattle.rc_edges.specs.Values.{Values}
-use Rattle.rc_edges.specs.EdgeMap.{Counted, extra_of, present}
-use Rattle.rc_edges.specs.ListMap.{rows_in}
-use Rattle.rc_edges.specs.ListMapLaws.{found_none}
-use Rattle.rc_edges.specs.OneMapLaws.{alone, in_place, no_place, is_own, is_other, own_found, other_none}
+use Rattle.rc_edges.proofs.Imports.{option_and_then, Values, Counted, extra_of, present, rows_in, found_none, alone, in_place, no_place, is_own, is_other, own_found, other_none}
 use Rattle.rc_edges.proofs.one_map.OneMapEdgeMap.get.Goals as goal
 use Rattle.rc_edges.proofs.one_map.OneMapEdgeMap.get.Goals.{In-Some}
 

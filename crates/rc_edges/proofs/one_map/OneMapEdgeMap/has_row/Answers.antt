@@ -1,11 +1,7 @@
 use Rattle.std.proofs.Common.{◌≡◌, ◌<◌, Bool, true, false, [], refl, ap, subst, ◌∙◌}
 use Rattle.std.specs.Prelude.{◌↔◌, ◌||◌, not}
-use Rattle.std.specs.Bool.{IsTrue}
+use Rattle.rc_edges.proofs.Imports.{IsTrue, Values, Counted, Rows, current, has_row-items, alone, in_place, no_place}
 use Rattle.std.specs.FinMap as fin
-use Rattle.rc_edges.specs.Values.{Values}
-use Rattle.rc_edges.specs.EdgeMap.{Counted, Rows, current}
-use Rattle.rc_edges.specs.ListMapLaws.{has_row-items}
-use Rattle.rc_edges.specs.OneMapLaws.{alone, in_place, no_place}
 use Rattle.rc_edges.proofs.one_map.OneMapEdgeMap.has_row.Goals as goal
 
 at_the_end : (b : Bool) → b ≡ (b || false)

@@ -1,6 +1,4 @@
-use Rattle.std.proofs.lemmas.Bool.{false≢true}
-use Rattle.rc_edges.specs.ListMapLaws.{gone_rows}
-use Rattle.rc_edges.specs.OneMapLaws.{alone, in_place}
+use Rattle.rc_edges.proofs.Imports.{false≢true, gone_rows, alone, in_place}
 use Rattle.rc_edges.proofs.one_map.OneMapEdgeMap.is_gone.Goals as goal
 
 pub returns-in-Some : goal.returns-in-Some

@@ -1,10 +1,6 @@
 use Rattle.std.proofs.Common.{◌≡◌, None, Some, [], sym, ap, ◌∙◌}
 use Rattle.std.specs.FinMap as fin
-use Rattle.rc_edges.specs.Values.{Values}
-use Rattle.rc_edges.specs.EdgeMap.{Counted, Rows, current}
-use Rattle.rc_edges.specs.ListMap.{count_in}
-use Rattle.rc_edges.specs.ListMapLaws.{count_one, len-rows}
-use Rattle.rc_edges.specs.OneMapLaws.{alone, in_place, no_place}
+use Rattle.rc_edges.proofs.Imports.{Values, Counted, Rows, current, count_in, count_one, len-rows, alone, in_place, no_place}
 use Rattle.rc_edges.proofs.one_map.OneMapEdgeMap.len.Goals as goal
 use Rattle.rc_edges.proofs.one_map.OneMapEdgeMap.len.Goals.{In-Some}
 

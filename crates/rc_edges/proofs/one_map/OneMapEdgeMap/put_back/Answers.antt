@@ -1,12 +1,6 @@
 use Rattle.std.proofs.Common.{◌≡◌, [], ap, subst, ◌∙◌}
 use Rattle.std.specs.FinMap as fin
-use Rattle.rc_edges.specs.Values.{Values}
-use Rattle.rc_edges.specs.EdgeMap.{Counted, HasAsMany}
-use Rattle.rc_edges.specs.ListMap.{rows_in}
-use Rattle.rc_edges.specs.ListMapLaws.{get_none}
-use Rattle.rc_edges.specs.OneMap.{rows_at}
-use Rattle.rc_edges.specs.declared.one_map.OneMap.TheInside.{Inside}
-use Rattle.rc_edges.specs.OneMapLaws.{alone, in_list, in_place, no_place, own_kept, own_get, set_own}
+use Rattle.rc_edges.proofs.Imports.{Values, Counted, HasAsMany, rows_in, get_none, rows_at, Inside, alone, in_list, in_place, no_place, own_kept, own_get, set_own}
 use Rattle.rc_edges.proofs.one_map.OneMapEdgeMap.put_back.Goals as goal
 use Rattle.rc_edges.proofs.one_map.OneMapEdgeMap.put_back.Goals.{in-Several, in-One+in-Some}
 

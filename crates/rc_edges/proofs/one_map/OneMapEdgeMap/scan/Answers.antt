@@ -1,10 +1,5 @@
 use Rattle.std.proofs.Common.{◌≡◌, ◌∷◌, ◌++◌, [], OnOk, sym, ap, subst, ◌∙◌}
-use Rattle.std.proofs.lemmas.List.{append-nil}
-use Rattle.rc_edges.specs.Values.{Values}
-use Rattle.rc_edges.specs.EdgeMap.{Counted, listed}
-use Rattle.rc_edges.specs.ListMap.{values_in}
-use Rattle.rc_edges.specs.ListMapLaws.{listed-rows}
-use Rattle.rc_edges.specs.OneMapLaws.{alone, in_place, no_place}
+use Rattle.rc_edges.proofs.Imports.{append-nil, Values, Counted, listed, values_in, listed-rows, alone, in_place, no_place}
 use Rattle.rc_edges.proofs.one_map.OneMapEdgeMap.scan.Goals as goal
 
 pub returns-in_default-clause-ok : goal.returns-in_default-clause-ok

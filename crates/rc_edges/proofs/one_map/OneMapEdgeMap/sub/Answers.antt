@@ -1,14 +1,6 @@
 use Rattle.std.proofs.Common.{◌≡◌, [], IsSome, sym, ap, subst, ◌∙◌}
-use Rattle.std.proofs.lemmas.Bool.{false≢true}
+use Rattle.rc_edges.proofs.Imports.{false≢true, Values, Counted, count_at, count_of, once_less, one_less, written, rows_in, found_none, counts, rows_at, Inside, alone, in_list, in_place, no_place, own_there, own_found, own_get, set_own}
 use Rattle.std.specs.FinMap as fin
-use Rattle.rc_edges.specs.Values.{Values}
-use Rattle.rc_edges.specs.EdgeMap.{Counted, count_at, count_of, once_less, one_less, written}
-use Rattle.rc_edges.specs.ListMap.{rows_in}
-use Rattle.rc_edges.specs.ListMapLaws.{found_none}
-use Rattle.rc_edges.specs.RowsLaws.{counts}
-use Rattle.rc_edges.specs.OneMap.{rows_at}
-use Rattle.rc_edges.specs.declared.one_map.OneMap.TheInside.{Inside}
-use Rattle.rc_edges.specs.OneMapLaws.{alone, in_list, in_place, no_place, own_there, own_found, own_get, set_own}
 use Rattle.rc_edges.proofs.one_map.OneMapEdgeMap.sub.Goals as goal
 use Rattle.rc_edges.proofs.one_map.OneMapEdgeMap.sub.Goals.{in-Several, in-One+in-Some}
 

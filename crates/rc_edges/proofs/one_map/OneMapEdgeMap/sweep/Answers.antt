@@ -1,10 +1,5 @@
 use Rattle.std.proofs.Common.{[], sym, ap, ◌∙◌}
-use Rattle.rc_edges.specs.Values.{Values}
-use Rattle.rc_edges.specs.EdgeMap.{Counted}
-use Rattle.rc_edges.specs.ListMapLaws.{get_none, swept_filled, swept_none}
-use Rattle.rc_edges.specs.OneMap.{rows_at}
-use Rattle.rc_edges.specs.declared.one_map.OneMap.TheInside.{Inside}
-use Rattle.rc_edges.specs.OneMapLaws.{in_place, no_place, is_own, is_other, own_get, other_none, swept_own}
+use Rattle.rc_edges.proofs.Imports.{Values, Counted, get_none, swept_filled, swept_none, rows_at, Inside, in_place, no_place, is_own, is_other, own_get, other_none, swept_own}
 use Rattle.rc_edges.proofs.one_map.OneMapEdgeMap.sweep.Goals as goal
 use Rattle.rc_edges.proofs.one_map.OneMapEdgeMap.sweep.Goals.{else-eq-via-then-eq+else-is_tombstone, else-eq-via-else-eq}
 

@@ -1,9 +1,5 @@
 use Rattle.std.proofs.Common.{◌≡◌, List, All, length, sym, subst, ap, ◌∙◌, arith}
-use Rattle.rc_row.specs.Passes.{PassSeen}
-use Rattle.rc_store.specs.Store.{IsFree, StoreSeen}
-use Rattle.rc_embed.specs.Closing.{pass_count}
-use Rattle.rc_embed.specs.Holding.{held}
-use Rattle.rc_embed.specs.Opened.{OpenSeen}
+use Rattle.rc_embed.proofs.Imports.{PassSeen, IsFree, StoreSeen, pass_count, held, OpenSeen}
 use Rattle.rc_embed.proofs.NumberLemmas.{count_of}
 use Rattle.rc_embed.proofs.opening.OpenStore.close.Goals as goal
 

@@ -1,9 +1,5 @@
 use Rattle.std.proofs.Common.{◌≡◌, ℕ, List, length, Some, sym, ap, ◌∙◌, arith}
-use Rattle.rc_spec.specs.declared.items.Op.{Op}
-use Rattle.rc_spec.specs.declared.spec.Spec.{Spec}
-use Rattle.rc_row.specs.Passes.{spec_of}
-use Rattle.rc_store.specs.Store.{StoreSeen}
-use Rattle.rc_work.specs.CallColumns.{written_columns_at}
+use Rattle.rc_embed.proofs.Imports.{Op, Spec, spec_of, StoreSeen, written_columns_at}
 use Rattle.rc_embed.proofs.AskedLemmas.{columns_past, columns_there}
 use Rattle.rc_embed.proofs.opening.OpenStore.columns.Goals as goal
 

@@ -1,8 +1,5 @@
 use Rattle.std.proofs.Common.{◌≡◌, length, ap, ◌∙◌, arith}
-use Rattle.rc_spec.specs.declared.items.Op.{Op}
-use Rattle.rc_spec.specs.declared.spec.Spec.{Spec}
-use Rattle.rc_row.specs.Passes.{spec_of}
-use Rattle.std.specs.Prelude.{List}
+use Rattle.rc_embed.proofs.Imports.{Op, Spec, spec_of, List}
 use Rattle.rc_embed.proofs.opening.OpenStore.operation.Goals as goal
 
 pub overflow_cast-result : goal.overflow_cast-result

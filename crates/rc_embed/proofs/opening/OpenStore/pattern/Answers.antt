@@ -1,11 +1,5 @@
 use Rattle.std.proofs.Common.{◌≡◌, ℕ, List, length, Some, option_map, sym, ap, ◌∙◌, arith}
-use Rattle.std.proofs.lemmas.Option.{slice_get-get_or, slice_get_past}
-use Rattle.rc_spec.specs.declared.items.Op.{Op}
-use Rattle.rc_spec.specs.declared.spec.Spec.{Spec}
-use Rattle.rc_spec.specs.Placement.{no_op}
-use Rattle.rc_row.specs.Passes.{spec_of}
-use Rattle.rc_store.specs.Store.{StoreSeen}
-use Rattle.rc_embed.specs.Declaring.{pattern_at}
+use Rattle.rc_embed.proofs.Imports.{slice_get-get_or, slice_get_past, Op, Spec, no_op, spec_of, StoreSeen, pattern_at}
 use Rattle.rc_embed.proofs.opening.OpenStore.pattern.Goals as goal
 
 pub returns-then-op-list : goal.returns-then-op-list

@@ -1,7 +1,5 @@
 use Rattle.std.proofs.Common.{◌≡◌, ◌+◌, List, All, sym, subst, arith}
-use Rattle.rc_row.specs.Passes.{PassSeen}
-use Rattle.rc_store.specs.Store.{IsFree, StoreSeen}
-use Rattle.rc_embed.specs.Holding.{held}
+use Rattle.rc_embed.proofs.Imports.{PassSeen, IsFree, StoreSeen, held}
 use Rattle.rc_embed.proofs.NumberLemmas.{all_with}
 use Rattle.rc_embed.proofs.opening.OpenStore.session.Goals as goal
 

@@ -1,13 +1,5 @@
 use Rattle.std.proofs.Common.{rules, ◌≡◌, ◌<◌, ℕ, List, ◌∷◌, ◌++◌, length, take, drop, All, sym, subst, ap, ◌∙◌, arith}
-use Rattle.std.specs.Arc.{arc_value}
-use Rattle.rc_row.specs.Passes.{PassSeen}
-use Rattle.rc_store.specs.Store.{IsFree, StoreSeen}
-use Rattle.rc_embed.specs.declared.session.State.{State}
-use Rattle.rc_embed.specs.declared.session.State.TheVariants.{Idle}
-use Rattle.rc_embed.specs.Closing.{IsPlaceOf, number_of, pass_count}
-use Rattle.rc_embed.specs.Holding.{held}
-use Rattle.rc_embed.specs.Opened.{OpenSeen}
-use Rattle.rc_embed.specs.Session.{IsStateOf, SessionSeen}
+use Rattle.rc_embed.proofs.Imports.{arc_value, PassSeen, IsFree, StoreSeen, State, Idle, IsPlaceOf, number_of, pass_count, held, OpenSeen, IsStateOf, SessionSeen}
 use Rattle.rc_embed.proofs.NumberLemmas.{all_with}
 use Rattle.rc_embed.proofs.SessionLemmas.{same_idle}
 use Rattle.rc_embed.proofs.opening.OpenStore.take_back.Goals as goal

@@ -1,7 +1,5 @@
 use Rattle.std.proofs.Common.{◌≡◌, Some, sym, subst, ◌∙◌}
-use Rattle.std.proofs.lemmas.Option.{same_Some}
-use Rattle.rc_store.specs.Closed.{ClosedSeen}
-use Rattle.rc_embed.specs.ResumedFrames.{IsUnresumedBy}
+use Rattle.rc_embed.proofs.Imports.{same_Some, ClosedSeen, IsUnresumedBy}
 use Rattle.rc_embed.proofs.ResumingLemmas.{unresumed_by}
 use Rattle.rc_embed.proofs.resume_frame.ClosedPlace.resume_by.Goals as goal
 

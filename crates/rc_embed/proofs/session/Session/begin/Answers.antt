@@ -1,5 +1,4 @@
-use Rattle.std.proofs.Common.{rules, refl, subst}
-use Rattle.rc_embed.specs.Session.{IsUnchanged, SessionSeen}
+use Rattle.rc_embed.proofs.Imports.{rules, refl, subst, IsUnchanged, SessionSeen}
 use Rattle.rc_embed.proofs.SessionLemmas.{same_session}
 use Rattle.rc_embed.proofs.session.Session.begin.Goals as goal
 

@@ -1,6 +1,4 @@
-use Rattle.std.proofs.Common.{rules, refl, subst}
-use Rattle.rc_embed.specs.Asking.{asked_calls}
-use Rattle.rc_embed.specs.Session.{IsUnchanged, SessionSeen}
+use Rattle.rc_embed.proofs.Imports.{rules, refl, subst, asked_calls, IsUnchanged, SessionSeen}
 use Rattle.rc_embed.proofs.FaultLemmas.{own_cause}
 use Rattle.rc_embed.proofs.SessionLemmas.{same_session}
 use Rattle.rc_embed.proofs.session.Session.begin_group.Goals as goal

@@ -1,10 +1,5 @@
 use Rattle.std.proofs.Common.{◌≡◌, [], ◌∷◌, ap, rules, refl, subst}
-use Rattle.rc_spec.specs.declared.call.Call.{Call}
-use Rattle.rc_row.specs.Passes.{spec_of}
-use Rattle.rc_store.specs.Running.{HasBegunGroup}
-use Rattle.rc_store.specs.Store.{StoreSeen}
-use Rattle.rc_work.specs.CallColumns.{call_of}
-use Rattle.rc_embed.specs.Session.{alone, prepared_in}
+use Rattle.rc_embed.proofs.Imports.{Call, spec_of, HasBegunGroup, StoreSeen, call_of, alone, prepared_in}
 use Rattle.rc_embed.proofs.SessionLemmas.{begun_alone}
 use Rattle.rc_embed.proofs.session.Session.begin_idle.Goals as goal
 

@@ -1,6 +1,5 @@
 use Rattle.std.proofs.Common.{◌≡◌, rules, refl}
-use Rattle.rc_row.specs.Passes.{spec_of}
-use Rattle.rc_work.specs.CallColumns.{call_of}
+use Rattle.rc_embed.proofs.Imports.{spec_of, call_of}
 use Rattle.rc_embed.proofs.SessionLemmas.{made_into}
 use Rattle.rc_embed.proofs.session.Session.call_idle.Goals as goal
 

@@ -1,5 +1,4 @@
-use Rattle.std.proofs.Common.{rules, refl}
-use Rattle.rc_embed.specs.Asked.{asked_with}
+use Rattle.rc_embed.proofs.Imports.{rules, refl, asked_with}
 use Rattle.rc_embed.proofs.DeclaringLemmas.{own_open_cause}
 use Rattle.rc_embed.proofs.session.Session.call_open.Goals as goal
 

@@ -1,9 +1,5 @@
 use Rattle.std.proofs.Common.{Option, ap, ◌∙◌, ◌≡◌, refl, rules, subst}
-use Rattle.rc_spec.specs.declared.call.Reply.{Reply}
-use Rattle.rc_embed.specs.Asked.{AskedCall, asked_with}
-use Rattle.rc_embed.specs.Asking.{asked_by}
-use Rattle.rc_embed.specs.Frames.{with_picked_reply}
-use Rattle.rc_embed.specs.OpenGroups.{HasCalledOpen}
+use Rattle.rc_embed.proofs.Imports.{Reply, AskedCall, asked_with, asked_by, with_picked_reply, HasCalledOpen}
 use Rattle.rc_embed.proofs.SessionLemmas.{called_last}
 use Rattle.rc_embed.proofs.session.Session.call_open_by.Goals as goal
 

@@ -1,9 +1,5 @@
 use Rattle.std.proofs.Common.{IfSome, Option, ap, arith, ◌∙◌, refl, subst}
-use Rattle.rc_spec.specs.declared.call.Reply.{Reply}
-use Rattle.rc_embed.specs.declared.frame.Frame.{Frame}
-use Rattle.rc_store.specs.declared.receipt.Position.{Position}
-use Rattle.rc_embed.specs.Session.{HasCommitted}
-use Rattle.rc_embed.specs.Frames.{with_picked_reply, with_reply}
+use Rattle.rc_embed.proofs.Imports.{Reply, Frame, Position, HasCommitted, with_picked_reply, with_reply}
 use Rattle.rc_embed.proofs.SessionLemmas.{committed_first}
 use Rattle.rc_embed.proofs.session.Session.commit_by.Goals as goal
 

@@ -1,10 +1,7 @@
 use Rattle.std.proofs.Common.{◌≡◌, ◌∙◌, [], ap, rules, refl, subst, sym}
-use Rattle.rc_store.specs.OpenGroups.{HasMadeOpenGroup}
-use Rattle.rc_store.specs.Store.{IsAsBefore, StoreSeen}
+use Rattle.rc_embed.proofs.Imports.{HasMadeOpenGroup, IsAsBefore, StoreSeen, State, HasNoCall, HeldFor, SessionSeen, made_of, replies_given, uncommitted_in}
 use Rattle.rc_embed.specs.declared.session.Last.TheVariants as lasts
-use Rattle.rc_embed.specs.declared.session.State.{State}
 use Rattle.rc_embed.specs.declared.session.State.TheVariants as states
-use Rattle.rc_embed.specs.Session.{HasNoCall, HeldFor, SessionSeen, made_of, replies_given, uncommitted_in}
 use Rattle.rc_embed.proofs.SessionLemmas.{given_so, told_open}
 use Rattle.rc_embed.proofs.session.Session.commit_open.Goals as goal
 

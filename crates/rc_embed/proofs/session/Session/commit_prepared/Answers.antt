@@ -1,10 +1,7 @@
 use Rattle.std.proofs.Common.{◌≡◌, ◌∙◌, [], ◌∷◌, ap, rules, refl, subst, sym}
-use Rattle.rc_store.specs.Store.{StoreSeen}
+use Rattle.rc_embed.proofs.Imports.{StoreSeen, Position, State, HeldFor, alone, receipt_of, replies_given, uncommitted_in}
 use Rattle.rc_embed.specs.declared.session.Last.TheVariants as lasts
-use Rattle.rc_store.specs.declared.receipt.Position.{Position}
-use Rattle.rc_embed.specs.declared.session.State.{State}
 use Rattle.rc_embed.specs.declared.session.State.TheVariants as states
-use Rattle.rc_embed.specs.Session.{HeldFor, alone, receipt_of, replies_given, uncommitted_in}
 use Rattle.rc_embed.proofs.SessionLemmas.{AreCommitted, given_so, made_alone, prepared_committed, told_committed, told_group_committed}
 use Rattle.rc_embed.proofs.session.Session.commit_prepared.Goals as goal
 

@@ -1,19 +1,7 @@
 use Rattle.std.proofs.Common.{◌≡◌, ◌∙◌, ap, rules, refl, subst, sym}
-use Rattle.rc_spec.specs.declared.call.Call.{Call}
-use Rattle.rc_spec.specs.Calls.{Fits}
-use Rattle.rc_plan.specs.Compiled.{IsCompiled}
-use Rattle.rc_multi.specs.Group.{Covers}
-use Rattle.rc_row.specs.Passes.{compiled_of, spec_of}
+use Rattle.rc_embed.proofs.Imports.{Call, Fits, IsCompiled, Covers, compiled_of, spec_of, IsCallBack, OpenGroupSeen, StoreSeen, call_of, State, HasNoRefusalIn, IsUncoveredIn, SessionSeen, made_of, uncommitted_in, session_seen}
 use Rattle.rc_store.specs.declared.open_group.OpenBack.TheVariants as backs
-use Rattle.rc_store.specs.OpenBacks.{IsCallBack}
-use Rattle.rc_store.specs.OpenGroups.{OpenGroupSeen}
-use Rattle.rc_store.specs.Store.{StoreSeen}
-use Rattle.rc_work.specs.CallColumns.{call_of}
-use Rattle.rc_embed.specs.declared.session.State.{State}
 use Rattle.rc_embed.specs.declared.session.State.TheVariants as states
-use Rattle.rc_embed.specs.OpenGroups.{HasNoRefusalIn, IsUncoveredIn}
-use Rattle.rc_embed.specs.Session.{SessionSeen, made_of, uncommitted_in}
-use Rattle.rc_embed.specs.SessionInside.{session_seen}
 use Rattle.rc_embed.proofs.DeclaringLemmas.{uncovered_so}
 use Rattle.rc_embed.proofs.session.Session.go_on.Goals as goal
 

@@ -1,9 +1,5 @@
 use Rattle.std.proofs.Common.{◌≡◌, ◌∙◌, List, length, map, take, ap, rules, refl, subst}
-use Rattle.rc_spec.specs.declared.call.Call.{Call}
-use Rattle.rc_row.specs.Passes.{spec_of}
-use Rattle.rc_store.specs.Store.{HasMadeGroup, StoreSeen}
-use Rattle.rc_embed.specs.Asked.{calls_by}
-use Rattle.rc_embed.specs.Session.{receipt_of, replies_given}
+use Rattle.rc_embed.proofs.Imports.{Call, spec_of, HasMadeGroup, StoreSeen, calls_by, receipt_of, replies_given}
 use Rattle.rc_embed.specs.declared.session.Last.TheVariants as lasts
 use Rattle.rc_embed.proofs.SessionLemmas.{told_group}
 use Rattle.rc_embed.proofs.session.Session.group_idle.Goals as goal

@@ -1,6 +1,4 @@
-use Rattle.std.proofs.Common.{rules, refl, subst}
-use Rattle.rc_embed.specs.Asking.{all_declared}
-use Rattle.rc_embed.specs.Session.{IsUnchanged, SessionSeen}
+use Rattle.rc_embed.proofs.Imports.{rules, refl, subst, all_declared, IsUnchanged, SessionSeen}
 use Rattle.rc_embed.proofs.DeclaringLemmas.{own_declared_cause}
 use Rattle.rc_embed.proofs.SessionLemmas.{same_session}
 use Rattle.rc_embed.proofs.session.Session.open_group.Goals as goal

@@ -1,11 +1,5 @@
 use Rattle.std.proofs.Common.{◌≡◌, ℕ, ◌<◌, ◌≤◌, List, length, slice_index_or, subst, sym, ap, ◌∙◌, arith}
-use Rattle.std.proofs.lemmas.List.FromFn.{length-map-range_with_len, get_or-map-range_with_len}
-use Rattle.rc_spec.specs.declared.spec.Spec.{Spec}
-use Rattle.rc_row.specs.Passes.{spec_of}
-use Rattle.rc_store.specs.Store.{StoreSeen}
-use Rattle.rc_work.specs.CallColumns.{written_columns_at}
-use Rattle.rc_work.specs.CallColumnsLaws.{written_columns_at-few}
-use Rattle.rc_embed.specs.Asked.{columns_of_all}
+use Rattle.rc_embed.proofs.Imports.{length-map-range_with_len, get_or-map-range_with_len, Spec, spec_of, StoreSeen, written_columns_at, written_columns_at-few, columns_of_all}
 use Rattle.rc_embed.proofs.shared.Shared.columns.Goals as goal
 
 pub index-requires : goal.index-requires

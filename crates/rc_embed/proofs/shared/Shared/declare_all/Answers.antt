@@ -1,10 +1,5 @@
 use Rattle.std.proofs.Common.{◌≡◌, ◌<◌, ◌≤◌, ℕ, List, All, length, map, take, length-set, sym, ap, ◌∙◌, subst, arith}
-use Rattle.std.proofs.lemmas.List.{length-map, take-take, take_all}
-use Rattle.rc_spec.specs.declared.call.Call.{Call}
-use Rattle.rc_multi.specs.GroupLocks.{HasOperation}
-use Rattle.rc_row.specs.Passes.{spec_of}
-use Rattle.rc_embed.specs.Asked.{AskedCall}
-use Rattle.rc_embed.specs.Declaring.{declared_by, declared_call, pattern_at}
+use Rattle.rc_embed.proofs.Imports.{length-map, take-take, take_all, Call, HasOperation, spec_of, AskedCall, declared_by, declared_call, pattern_at}
 use Rattle.rc_embed.proofs.DeclaringLemmas.{declared_here, declared_known, one_declared, pattern_few}
 use Rattle.rc_embed.proofs.shared.Shared.declare_all.Goals as goal
 

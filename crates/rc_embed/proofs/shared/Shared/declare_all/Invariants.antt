@@ -1,6 +1,5 @@
 use Rattle.std.proofs.Common.{◌≡◌, ◌≤◌, length, map, take}
-use Rattle.rc_row.specs.Passes.{spec_of}
-use Rattle.rc_embed.specs.Declaring.{declared_by}
+use Rattle.rc_embed.proofs.Imports.{spec_of, declared_by}
 use Rattle.rc_embed.proofs.shared.Shared.declare_all.Given as goal
 
 abbrev pub invariant-loop-at : goal.invariant-loop-at

@@ -1,11 +1,5 @@
-use Rattle.std.specs.List.{zip}
+use Rattle.rc_embed.proofs.Imports.{zip, AreDistinct, In, gather, pair_cmp, Op, Spec, spec_of, declared_call, pattern_at}
 use Rattle.std.proofs.Common.{◌≡◌, ◌<◌, ℕ, List, length, take, ap, ◌∙◌, sym, subst, arith}
-use Rattle.rc_tuple.specs.RisingSet.{AreDistinct, In, gather}
-use Rattle.rc_tuple.specs.Tuple.{pair_cmp}
-use Rattle.rc_spec.specs.declared.items.Op.{Op}
-use Rattle.rc_spec.specs.declared.spec.Spec.{Spec}
-use Rattle.rc_row.specs.Passes.{spec_of}
-use Rattle.rc_embed.specs.Declaring.{declared_call, pattern_at}
 use Rattle.rc_embed.proofs.DeclaringLemmas.{some_below, some_distinct, tuple_some}
 use Rattle.rc_embed.proofs.shared.Shared.declare_call.Goals as goal
 

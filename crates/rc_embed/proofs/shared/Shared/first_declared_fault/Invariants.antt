@@ -1,6 +1,5 @@
 use Rattle.std.proofs.Common.{◌≡◌, drop, map}
-use Rattle.rc_row.specs.Passes.{spec_of}
-use Rattle.rc_embed.specs.Declaring.{first_declared_fault}
+use Rattle.rc_embed.proofs.Imports.{spec_of, first_declared_fault}
 use Rattle.rc_embed.proofs.shared.Shared.first_declared_fault.Given as goal
 
 abbrev pub invariant-loop-one : goal.invariant-loop-one

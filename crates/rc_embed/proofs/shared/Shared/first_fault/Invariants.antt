@@ -1,6 +1,5 @@
 use Rattle.std.proofs.Common.{◌≡◌, drop, map}
-use Rattle.rc_row.specs.Passes.{spec_of}
-use Rattle.rc_embed.specs.Refused.{first_fault}
+use Rattle.rc_embed.proofs.Imports.{spec_of, first_fault}
 use Rattle.rc_embed.proofs.shared.Shared.first_fault.Given as goal
 
 abbrev pub invariant-loop-call : goal.invariant-loop-call

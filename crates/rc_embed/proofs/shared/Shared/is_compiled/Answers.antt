@@ -1,7 +1,5 @@
 use Rattle.std.proofs.Common.{◌∙◌, ap, subst}
-use Rattle.rc_plan.specs.Compiled.{IsCompiled, SpecWithPlans}
-use Rattle.rc_row.specs.Passes.{compiled_of}
-use Rattle.rc_store.specs.Store.{StoreSeen}
+use Rattle.rc_embed.proofs.Imports.{IsCompiled, SpecWithPlans, compiled_of, StoreSeen}
 use Rattle.rc_embed.proofs.shared.Shared.is_compiled.Goals as goal
 
 pub returns : goal.returns

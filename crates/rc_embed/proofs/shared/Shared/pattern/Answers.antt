@@ -1,8 +1,5 @@
 use Rattle.std.proofs.Common.{ℕ, ◌≤◌, List, length, subst, sym, ap, ◌∙◌, arith}
-use Rattle.rc_spec.specs.declared.items.Op.{Op}
-use Rattle.rc_spec.specs.declared.spec.Spec.{Spec}
-use Rattle.rc_row.specs.Passes.{spec_of}
-use Rattle.rc_embed.specs.Declaring.{pattern_at}
+use Rattle.rc_embed.proofs.Imports.{Op, Spec, spec_of, pattern_at}
 use Rattle.rc_embed.proofs.DeclaringLemmas.{pattern_few}
 use Rattle.rc_embed.proofs.shared.Shared.pattern.Goals as goal
 

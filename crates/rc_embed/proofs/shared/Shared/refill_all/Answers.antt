@@ -1,12 +1,5 @@
 use Rattle.std.proofs.Common.{◌≡◌, ◌<◌, ℕ, List, length, map, take, length-set, sym, ap, ◌∙◌, subst, arith}
-use Rattle.std.specs.List.{AllByRecursion}
-use Rattle.std.proofs.lemmas.List.{length-map, take_more_set}
-use Rattle.rc_spec.specs.declared.call.Call.{Call}
-use Rattle.rc_spec.specs.Calls.{Fits}
-use Rattle.rc_row.specs.Passes.{spec_of}
-use Rattle.rc_work.specs.CallColumns.{call_of, written_columns_at}
-use Rattle.rc_work.specs.CallColumnsLaws.{written_columns_at-few}
-use Rattle.rc_embed.specs.Asked.{AskedCall}
+use Rattle.rc_embed.proofs.Imports.{AllByRecursion, length-map, take_more_set, Call, Fits, spec_of, call_of, written_columns_at, written_columns_at-few, AskedCall}
 use Rattle.rc_embed.proofs.FaultLemmas.{all_more, one_filled, taken_here}
 use Rattle.rc_embed.proofs.shared.Shared.refill_all.Goals as goal
 

@@ -1,8 +1,5 @@
-use Rattle.std.specs.List.{AllByRecursion}
+use Rattle.rc_embed.proofs.Imports.{AllByRecursion, Fits, spec_of, calls_by}
 use Rattle.std.proofs.Common.{◌≡◌, ◌≤◌, length, map, take}
-use Rattle.rc_spec.specs.Calls.{Fits}
-use Rattle.rc_row.specs.Passes.{spec_of}
-use Rattle.rc_embed.specs.Asked.{calls_by}
 use Rattle.rc_embed.proofs.shared.Shared.refill_all.Given as goal
 
 abbrev pub invariant-loop-at : goal.invariant-loop-at

@@ -1,11 +1,5 @@
 use Rattle.std.proofs.Common.{ℕ, ◌<◌, List, length, sym, subst, ap, ◌∙◌, arith}
-use Rattle.rc_spec.specs.declared.call.Call.{Call}
-use Rattle.rc_spec.specs.declared.spec.Spec.{Spec}
-use Rattle.rc_spec.specs.Calls.{Fits}
-use Rattle.rc_row.specs.Passes.{spec_of}
-use Rattle.rc_work.specs.CallColumns.{HasKnownColumns, call_of, written_columns_at}
-use Rattle.rc_work.specs.CallLaws.{Fits-call_over}
-use Rattle.rc_work.specs.Fitting.{IsOfWords}
+use Rattle.rc_embed.proofs.Imports.{Call, Spec, Fits, spec_of, HasKnownColumns, call_of, written_columns_at, Fits-call_over, IsOfWords}
 use Rattle.rc_embed.proofs.shared.Shared.refill_call.Goals as goal
 
 pub overflow_cast-number : goal.overflow_cast-number

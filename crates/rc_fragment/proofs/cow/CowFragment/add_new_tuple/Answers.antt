@@ -1,7 +1,5 @@
 use Rattle.std.proofs.Common.{◌≡◌, sym, ap, subst, ◌∙◌}
-use Rattle.rc_fragment.specs.Cow.{had_in}
-use Rattle.rc_fragment.specs.Fragment.{HasRowOf}
-use Rattle.rc_fragment.specs.FragmentRows.{FragmentRows}
+use Rattle.rc_fragment.proofs.Imports.{had_in, HasRowOf, FragmentRows}
 use Rattle.rc_fragment.proofs.cow.CowFragment.add_new_tuple.Goals as goal
 
 pub returns-clause-there : goal.returns-clause-there

@@ -1,16 +1,6 @@
 use Rattle.std.proofs.Common.{◌≡◌, ◌+◌, ◌<◌, ◌^◌, ◌==◌, lit<, Option, Some, None, refl, sym, ap, subst, ◌∙◌}
-use Rattle.std.specs.Prelude.{IsSome, length}
-use Rattle.std.specs.Option.{OnSome, option_and_then}
+use Rattle.rc_fragment.proofs.Imports.{IsSome, length, OnSome, option_and_then, Values, Counted, HasExtra, count_of, present, written, if_ok, get-current, IsSet, containers_of, width_for, width_of, kept_in, now_in, takes_one, Sources, form_of, found_in, sources_of, Container, EdgeRows}
 use Rattle.std.specs.FinMap as fin
-use Rattle.rc_edges.specs.Values.{Values}
-use Rattle.rc_edges.specs.EdgeMap.{Counted, HasExtra, count_of, present, written}
-use Rattle.rc_edges.specs.OneMapLaws.{if_ok}
-use Rattle.rc_edges.specs.RowsLaws.{get-current}
-use Rattle.rc_fragment.specs.SourceTable.{IsSet, containers_of, width_for, width_of}
-use Rattle.rc_fragment.specs.Container.{kept_in, now_in, takes_one}
-use Rattle.rc_fragment.specs.Sources.{Sources, form_of, found_in, sources_of}
-use Rattle.rc_fragment.specs.declared.container.Container.{Container}
-use Rattle.rc_fragment.specs.declared.edge_rows.EdgeRows.{EdgeRows}
 use Rattle.rc_fragment.proofs.NewLemmas.{new_changed}
 use Rattle.rc_fragment.proofs.SourcesLemmas.{emptied_before, has_width, none_there, not_empty, on_err, on_err_from, same_changed, same_entries, set_by, set_form, takes_alone, takes_first}
 use Rattle.rc_fragment.proofs.edge_rows.EdgeRows.add_new.Goals as goal

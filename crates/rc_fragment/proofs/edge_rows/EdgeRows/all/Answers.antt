@@ -1,14 +1,5 @@
 use Rattle.std.proofs.Common.{◌≡◌, ◌++◌, sym, ap, subst, ◌∙◌}
-use Rattle.std.specs.Prelude.{List, map}
-use Rattle.std.proofs.lemmas.List.{append-nil, drop_all}
-use Rattle.rc_tuple.specs.RisingSet.{In}
-use Rattle.rc_tuple.specs.RisingSetLaws.{get_or_in, map_in}
-use Rattle.rc_tuple.specs.Tuple.{Pairs}
-use Rattle.rc_edges.specs.Values.{Values}
-use Rattle.rc_maps.specs.Keyed.{pair_of}
-use Rattle.rc_maps.specs.declared.keyed.Keyed.{Keyed}
-use Rattle.rc_fragment.specs.declared.container.Container.{Container}
-use Rattle.rc_fragment.specs.declared.edge_rows.EdgeRows.{EdgeRows}
+use Rattle.rc_fragment.proofs.Imports.{List, map, append-nil, drop_all, In, get_or_in, map_in, Pairs, Values, pair_of, Keyed, Container, EdgeRows}
 use Rattle.rc_fragment.proofs.WalkLemmas.{filed_here, kept_walked, rows_walked, walked_kept}
 use Rattle.rc_fragment.proofs.edge_rows.EdgeRows.all.Goals as goal
 

@@ -1,6 +1,5 @@
 use Rattle.std.proofs.Common.{◌≡◌, ◌++◌, drop}
-use Rattle.std.specs.Prelude.{map}
-use Rattle.rc_maps.specs.Keyed.{pair_of}
+use Rattle.rc_fragment.proofs.Imports.{map, pair_of}
 use Rattle.rc_fragment.proofs.WalkLemmas.{rows_walked}
 use Rattle.rc_fragment.proofs.edge_rows.EdgeRows.all.Given as goal
 

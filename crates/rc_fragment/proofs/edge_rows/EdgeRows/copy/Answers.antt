@@ -1,7 +1,5 @@
 use Rattle.std.proofs.Common.{refl, sym, ap, ◌∙◌}
-use Rattle.rc_fragment.specs.SourceTable.{containers_of, width_for}
-use Rattle.rc_fragment.specs.Container.{kept_in}
-use Rattle.rc_fragment.specs.Sources.{SeenContainer, Sources, form_of, sources_of}
+use Rattle.rc_fragment.proofs.Imports.{containers_of, width_for, kept_in, SeenContainer, Sources, form_of, sources_of}
 use Rattle.rc_fragment.proofs.CopyLemmas.{emptied_seen, forms_same, found_same}
 use Rattle.rc_fragment.proofs.edge_rows.EdgeRows.copy.Goals as goal
 

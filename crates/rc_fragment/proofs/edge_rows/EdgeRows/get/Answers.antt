@@ -1,8 +1,5 @@
 use Rattle.std.proofs.Common.{sym, ap, ◌∙◌}
-use Rattle.rc_edges.specs.EdgeMap.{extra_of}
-use Rattle.rc_edges.specs.RowsLaws.{get-current}
-use Rattle.rc_fragment.specs.Container.{kept_in, now_in}
-use Rattle.rc_fragment.specs.Sources.{found_in}
+use Rattle.rc_fragment.proofs.Imports.{extra_of, get-current, kept_in, now_in, found_in}
 use Rattle.rc_fragment.proofs.edge_rows.EdgeRows.get.Goals as goal
 
 pub returns-in-Some : goal.returns-in-Some

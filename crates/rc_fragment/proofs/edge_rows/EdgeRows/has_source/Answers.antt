@@ -1,7 +1,6 @@
 use Rattle.std.proofs.Common.{◌≡◌, Some, sym, ap, ◌∙◌}
-use Rattle.std.specs.Prelude.{not, option_copied}
+use Rattle.rc_fragment.proofs.Imports.{not, option_copied, sources_of}
 use Rattle.std.specs.FinMap as fin
-use Rattle.rc_fragment.specs.Sources.{sources_of}
 use Rattle.rc_fragment.proofs.SourceReadLemmas.{clean_row, len_row, row_len}
 use Rattle.rc_fragment.proofs.edge_rows.EdgeRows.has_source.Goals as goal
 

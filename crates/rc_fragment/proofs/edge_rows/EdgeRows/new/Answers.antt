@@ -1,10 +1,6 @@
 use Rattle.std.proofs.Common.{sym, ap, ◌∙◌}
 use Rattle.std.specs.FinMap as fin
-use Rattle.std.specs.FinMap.{get-empty}
-use Rattle.std.proofs.lemmas.Option.{none-some}
-use Rattle.rc_edges.specs.Values.{values_cmp}
-use Rattle.rc_fragment.specs.SourceTable.{width_for}
-use Rattle.rc_fragment.specs.Sources.{Sources}
+use Rattle.rc_fragment.proofs.Imports.{get-empty, none-some, values_cmp, width_for, Sources}
 use Rattle.rc_fragment.proofs.edge_rows.EdgeRows.new.Goals as goal
 
 pub returns-clause-form : goal.returns-clause-form

@@ -1,11 +1,5 @@
 use Rattle.std.proofs.Common.{◌++◌, List, rules, ap, ◌∙◌}
-use Rattle.std.specs.List.{flat_map}
-use Rattle.std.proofs.lemmas.List.Sorted.{answers_always, ranks_by}
-use Rattle.rc_edges.specs.RowsLaws.{total}
-use Rattle.rc_maps.specs.declared.keyed.Keyed.{Keyed}
-use Rattle.rc_maps.specs.WalkLaws.{IsSorted, IsSorted-by, is_before}
-use Rattle.rc_fragment.specs.Sources.{shown_sources}
-use Rattle.rc_fragment.specs.declared.container.Container.{Container}
+use Rattle.rc_fragment.proofs.Imports.{flat_map, answers_always, ranks_by, total, Keyed, IsSorted, IsSorted-by, is_before, shown_sources, Container}
 use Rattle.rc_fragment.proofs.SourceReadLemmas.{HasPushed-shown}
 use Rattle.rc_fragment.proofs.edge_rows.EdgeRows.push_sources.Goals as goal
 

@@ -1,11 +1,6 @@
 use Rattle.std.proofs.Common.{◌≡◌, Some, refl, sym, subst}
-use Rattle.std.specs.Option.{OnSome}
+use Rattle.rc_fragment.proofs.Imports.{OnSome, IsSet, kept_in, sources_of, Container, EdgeRows}
 use Rattle.std.specs.FinMap as fin
-use Rattle.rc_fragment.specs.SourceTable.{IsSet}
-use Rattle.rc_fragment.specs.Container.{kept_in}
-use Rattle.rc_fragment.specs.Sources.{sources_of}
-use Rattle.rc_fragment.specs.declared.container.Container.{Container}
-use Rattle.rc_fragment.specs.declared.edge_rows.EdgeRows.{EdgeRows}
 use Rattle.rc_fragment.proofs.SourcesLemmas.{becomes_changed, not_empty}
 use Rattle.rc_fragment.proofs.edge_rows.EdgeRows.put_back.Goals as goal
 

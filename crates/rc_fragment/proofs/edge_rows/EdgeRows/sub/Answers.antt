@@ -1,15 +1,6 @@
 use Rattle.std.proofs.Common.{◌≡◌, Option, Some, sym, ap, subst, ◌∙◌}
-use Rattle.std.specs.Prelude.{IsSome}
-use Rattle.std.specs.Option.{OnSome}
+use Rattle.rc_fragment.proofs.Imports.{IsSome, OnSome, Counted, found, one_less, written, get-current, IsSet, kept_in, now_in, Values, found_in, now_at, sources_of, Container, EdgeRows}
 use Rattle.std.specs.FinMap as fin
-use Rattle.rc_edges.specs.EdgeMap.{Counted, found, one_less, written}
-use Rattle.rc_edges.specs.RowsLaws.{get-current}
-use Rattle.rc_fragment.specs.SourceTable.{IsSet}
-use Rattle.rc_fragment.specs.Container.{kept_in, now_in}
-use Rattle.rc_edges.specs.Values.{Values}
-use Rattle.rc_fragment.specs.Sources.{found_in, now_at, sources_of}
-use Rattle.rc_fragment.specs.declared.container.Container.{Container}
-use Rattle.rc_fragment.specs.declared.edge_rows.EdgeRows.{EdgeRows}
 use Rattle.rc_fragment.proofs.KeptLemmas.{kept_some, less_some}
 use Rattle.rc_fragment.proofs.SourcesLemmas.{becomes_changed, not_empty}
 use Rattle.rc_fragment.proofs.edge_rows.EdgeRows.sub.Goals as goal

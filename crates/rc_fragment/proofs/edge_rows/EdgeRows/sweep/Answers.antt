@@ -1,15 +1,6 @@
 use Rattle.std.proofs.Common.{◌≡◌, Option, Some, None, refl, sym, ap, subst, ◌∙◌}
-use Rattle.std.specs.Option.{OnSome}
+use Rattle.rc_fragment.proofs.Imports.{OnSome, false≢true, Counted, written, get-current, Values, IsSet, kept_in, now_in, Becomes, found_in, sources_of, Container, EdgeRows}
 use Rattle.std.specs.FinMap as fin
-use Rattle.std.proofs.lemmas.Bool.{false≢true}
-use Rattle.rc_edges.specs.EdgeMap.{Counted, written}
-use Rattle.rc_edges.specs.RowsLaws.{get-current}
-use Rattle.rc_edges.specs.Values.{Values}
-use Rattle.rc_fragment.specs.SourceTable.{IsSet}
-use Rattle.rc_fragment.specs.Container.{kept_in, now_in}
-use Rattle.rc_fragment.specs.Sources.{Becomes, found_in, sources_of}
-use Rattle.rc_fragment.specs.declared.container.Container.{Container}
-use Rattle.rc_fragment.specs.declared.edge_rows.EdgeRows.{EdgeRows}
 use Rattle.rc_fragment.proofs.SourcesLemmas.{becomes_changed, becomes_out, none_set}
 use Rattle.rc_fragment.proofs.edge_rows.EdgeRows.sweep.Goals as goal
 

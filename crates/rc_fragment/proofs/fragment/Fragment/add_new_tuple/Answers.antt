@@ -1,6 +1,5 @@
 use Rattle.std.proofs.Common.{subst, ◌∙◌}
-use Rattle.rc_fragment.specs.Fragment.{HasRowOf}
-use Rattle.rc_fragment.specs.FragmentRows.{FragmentRows}
+use Rattle.rc_fragment.proofs.Imports.{HasRowOf, FragmentRows}
 use Rattle.rc_fragment.proofs.fragment.Fragment.add_new_tuple.Goals as goal
 
 pub returns-clause-there : goal.returns-clause-there

@@ -1,6 +1,5 @@
 use Rattle.std.proofs.Common.{ap, ◌∙◌}
-use Rattle.rc_fragment.specs.Fragment.{edge_table}
-use Rattle.rc_fragment.specs.Tuples.{full_fragment}
+use Rattle.rc_fragment.proofs.Imports.{edge_table, full_fragment}
 use Rattle.rc_fragment.proofs.FullReadLemmas.{full_none}
 use Rattle.rc_fragment.proofs.fragment.Fragment.empty.Goals as goal
 

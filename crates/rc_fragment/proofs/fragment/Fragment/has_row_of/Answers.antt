@@ -1,6 +1,5 @@
 use Rattle.std.proofs.Common.{Some, subst, ◌∙◌}
-use Rattle.rc_fragment.specs.Fragment.{HasShape}
-use Rattle.rc_fragment.specs.FragmentRows.{FragmentRows}
+use Rattle.rc_fragment.proofs.Imports.{HasShape, FragmentRows}
 use Rattle.rc_fragment.proofs.FirstLemmas.{looked_so}
 use Rattle.rc_fragment.proofs.fragment.Fragment.has_row_of.Goals as goal
 

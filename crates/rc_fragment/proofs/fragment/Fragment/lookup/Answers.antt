@@ -1,7 +1,5 @@
 use Rattle.std.proofs.Common.{length, sym, ap, ◌∙◌}
-use Rattle.std.specs.Prelude.{option_copied}
-use Rattle.std.proofs.lemmas.Bool.{eq-eqb, eqb-true, false≢true}
-use Rattle.std.proofs.lemmas.List.{nil_from_length}
+use Rattle.rc_fragment.proofs.Imports.{option_copied, eq-eqb, eqb-true, false≢true, nil_from_length}
 use Rattle.rc_fragment.proofs.FullReadLemmas.{kept_lookup, told_known, told_lookup, told_none}
 use Rattle.rc_fragment.proofs.fragment.Fragment.lookup.Goals as goal
 use Rattle.rc_fragment.proofs.fragment.Fragment.lookup.Goals.{else-is_empty-via-then-is_empty+else-has_source, else-is_empty-via-else-is_empty}

@@ -1,6 +1,5 @@
 use Rattle.std.proofs.Common.{length, sym, ap, ◌∙◌}
-use Rattle.std.proofs.lemmas.Bool.{eq-eqb, eqb-true, false≢true}
-use Rattle.std.proofs.lemmas.List.{nil_from_length}
+use Rattle.rc_fragment.proofs.Imports.{eq-eqb, eqb-true, false≢true, nil_from_length}
 use Rattle.rc_fragment.proofs.FullReadLemmas.{kept_scan, told_known, told_no_scan, told_scan, told_some}
 use Rattle.rc_fragment.proofs.SourcesLemmas.{if_ok_from}
 use Rattle.rc_fragment.proofs.fragment.Fragment.rows_at.Goals as goal

@@ -1,7 +1,4 @@
-use Rattle.std.proofs.Common.{subst}
-use Rattle.rc_fragment.specs.Fragment.{AreRowsOf}
-use Rattle.rc_fragment.specs.FragmentRows.{FragmentRows}
-use Rattle.rc_fragment.specs.ImpliedReadsLaws.{full_fit}
+use Rattle.rc_fragment.proofs.Imports.{subst, AreRowsOf, FragmentRows, full_fit}
 use Rattle.rc_fragment.proofs.fragment.Fragment.rows_fit_the_table.Goals as goal
 
 pub returns-clause-now : goal.returns-clause-now

@@ -1,6 +1,5 @@
 use Rattle.std.proofs.Common.{length, sym, ap, ◌∙◌}
-use Rattle.std.proofs.lemmas.Bool.{eq-eqb, eqb-true, false≢true}
-use Rattle.std.proofs.lemmas.List.{nil_from_length}
+use Rattle.rc_fragment.proofs.Imports.{eq-eqb, eqb-true, false≢true, nil_from_length}
 use Rattle.rc_fragment.proofs.FullReadLemmas.{kept_scanned, told_known, told_none_scanned, told_scanned}
 use Rattle.rc_fragment.proofs.SourcesLemmas.{on_ok_from}
 use Rattle.rc_fragment.proofs.fragment.Fragment.scan.Goals as goal

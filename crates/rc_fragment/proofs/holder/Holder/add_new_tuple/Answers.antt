@@ -1,9 +1,4 @@
-use Rattle.std.proofs.Common.{refl, subst}
-use Rattle.rc_fragment.specs.Fragment.{HasNoRowOf, HasRowOf}
-use Rattle.rc_fragment.specs.FragmentRows.{FragmentRows}
-use Rattle.rc_fragment.specs.Holder.{HasNoRowAt}
-use Rattle.rc_fragment.specs.HoldingLaws.{none_partly}
-use Rattle.rc_fragment.specs.Tuples.{IsRowOf}
+use Rattle.rc_fragment.proofs.Imports.{refl, subst, HasNoRowOf, HasRowOf, FragmentRows, HasNoRowAt, none_partly, IsRowOf}
 use Rattle.rc_fragment.proofs.holder.Holder.add_new_tuple.Given.{Over}
 use Rattle.rc_fragment.proofs.holder.Holder.add_new_tuple.Goals.{Else-has}
 use Rattle.rc_fragment.proofs.holder.Holder.add_new_tuple.Goals as goal

@@ -1,8 +1,5 @@
 use Rattle.std.proofs.Common.{◌≡◌, Some, sym, ap, subst, ◌∙◌}
-use Rattle.std.specs.Option.{option_map}
-use Rattle.rc_fragment.specs.SourceTable.{containers_of}
-use Rattle.rc_fragment.specs.Sources.{AreSeenAlike, seen_container}
-use Rattle.rc_fragment.specs.declared.source_table.SourceTable.TheVariants.{Root}
+use Rattle.rc_fragment.proofs.Imports.{option_map, containers_of, AreSeenAlike, seen_container, Root}
 use Rattle.rc_fragment.proofs.SourceTableLemmas.{root-alike}
 use Rattle.rc_fragment.proofs.source_table.SourceTable.copy.Goals as goal
 use Rattle.rc_fragment.proofs.source_table.SourceTable.copy.Goals.{Joined-place, in-None, in-Some+in_ok-copy-in-Some}

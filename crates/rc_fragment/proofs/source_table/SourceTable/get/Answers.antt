@@ -1,7 +1,6 @@
 use Rattle.std.proofs.Common.{sym, ap, ◌∙◌}
-use Rattle.std.proofs.lemmas.Bool.{eq-eqb, eqb-true, false≢true}
+use Rattle.rc_fragment.proofs.Imports.{eq-eqb, eqb-true, false≢true, containers_of}
 use Rattle.std.specs.FinMap as fin
-use Rattle.rc_fragment.specs.SourceTable.{containers_of}
 use Rattle.rc_fragment.proofs.SourceTableLemmas.{root-here, root-other}
 use Rattle.rc_fragment.proofs.source_table.SourceTable.get.Goals as goal
 

@@ -1,6 +1,5 @@
 use Rattle.std.proofs.Common.{◌≡◌, Some, length, refl, sym, ap, ◌∙◌}
-use Rattle.std.proofs.lemmas.Bool.{eq-eqb, eqb-true, false≢true}
-use Rattle.std.proofs.lemmas.Option.{IfSome_then}
+use Rattle.rc_fragment.proofs.Imports.{eq-eqb, eqb-true, false≢true, IfSome_then}
 use Rattle.rc_fragment.proofs.SourceTableLemmas.{on_some_any, root-changed, root-here, root-other}
 use Rattle.rc_fragment.specs.declared.source_table.SourceTable.TheVariants as table
 use Rattle.rc_fragment.proofs.source_table.SourceTable.get_mut.Goals as goal

@@ -1,6 +1,5 @@
 use Rattle.std.proofs.Common.{Some, length, sym, ap, ◌∙◌}
-use Rattle.rc_edges.specs.EdgeMap.{written}
-use Rattle.rc_fragment.specs.SourceTable.{containers_of, width_of}
+use Rattle.rc_fragment.proofs.Imports.{written, containers_of, width_of}
 use Rattle.rc_fragment.proofs.SourceTableLemmas.{no_width, root-changed}
 use Rattle.rc_fragment.proofs.source_table.SourceTable.insert.Goals as goal
 

@@ -1,8 +1,5 @@
 use Rattle.std.proofs.Common.{Vec, Global, refl, sym, ap, ◌∙◌}
-use Rattle.rc_maps.specs.declared.keyed.Keyed.{Keyed}
-use Rattle.rc_fragment.specs.SourceTable.{containers_of}
-use Rattle.rc_fragment.specs.declared.container.Container.{Container}
-use Rattle.rc_fragment.specs.declared.source_table.SourceTable.TheVariants.{Root}
+use Rattle.rc_fragment.proofs.Imports.{Keyed, containers_of, Container, Root}
 use Rattle.rc_fragment.proofs.SourceTableLemmas.{none-apart, none-entries, one-apart, one-entries}
 use Rattle.rc_fragment.proofs.source_table.SourceTable.keyed.Goals as goal
 use Rattle.rc_fragment.proofs.source_table.SourceTable.keyed.Goals.{in_default, in-Some+in_ok-push-in-Root}

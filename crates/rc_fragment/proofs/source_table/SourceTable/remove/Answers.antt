@@ -1,7 +1,5 @@
 use Rattle.std.proofs.Common.{None, sym, ap, ◌∙◌}
-use Rattle.std.proofs.lemmas.Bool.{eq-eqb, eqb-true, false≢true}
-use Rattle.rc_edges.specs.EdgeMap.{written}
-use Rattle.rc_fragment.specs.SourceTable.{containers_of}
+use Rattle.rc_fragment.proofs.Imports.{eq-eqb, eqb-true, false≢true, written, containers_of}
 use Rattle.rc_fragment.proofs.SourceTableLemmas.{root-changed, root-without}
 use Rattle.rc_fragment.proofs.source_table.SourceTable.remove.Goals as goal
 

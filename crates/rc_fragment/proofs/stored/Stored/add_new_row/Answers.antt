@@ -1,13 +1,5 @@
 use Rattle.std.proofs.Common.{◌≡◌, Ok, length, sym, ap, subst, ◌∙◌}
-use Rattle.std.specs.Prelude.{true, false}
-use Rattle.rc_spec.specs.CountedRows.{raised}
-use Rattle.rc_fragment.specs.Container.{now_in}
-use Rattle.rc_fragment.specs.Fragment.{HasColumns, HasNoRowOf, HasRowOf, edge_row, seen_parts}
-use Rattle.rc_fragment.specs.FragmentRows.{FragmentRows, changed}
-use Rattle.rc_fragment.specs.Listing.{listing, shapes}
-use Rattle.rc_fragment.specs.Tuples.{CanAddRow, IsNewRow}
-use Rattle.rc_maps.specs.PushLaws.{on_err}
-use Rattle.rc_fragment.specs.declared.stored.Parts.{Parts}
+use Rattle.rc_fragment.proofs.Imports.{true, false, raised, now_in, HasColumns, HasNoRowOf, HasRowOf, edge_row, seen_parts, FragmentRows, changed, listing, shapes, CanAddRow, IsNewRow, on_err, Parts}
 use Rattle.rc_fragment.proofs.TupleLemmas.{less_one}
 use Rattle.rc_fragment.proofs.stored.Stored.add_new_row.Goals as goal
 

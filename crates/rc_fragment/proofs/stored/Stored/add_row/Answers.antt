@@ -1,11 +1,5 @@
 use Rattle.std.proofs.Common.{◌≡◌, sym, ap, subst, ◌∙◌}
-use Rattle.rc_spec.specs.CountedRows.{raised}
-use Rattle.rc_fragment.specs.Container.{now_in}
-use Rattle.rc_fragment.specs.Fragment.{edge_row, seen_parts}
-use Rattle.rc_fragment.specs.FragmentRows.{FragmentRows, changed}
-use Rattle.rc_fragment.specs.Listing.{listing, shapes}
-use Rattle.rc_fragment.specs.Tuples.{CanAddRow}
-use Rattle.rc_fragment.specs.declared.stored.Parts.{Parts}
+use Rattle.rc_fragment.proofs.Imports.{raised, now_in, edge_row, seen_parts, FragmentRows, changed, listing, shapes, CanAddRow, Parts}
 use Rattle.rc_fragment.proofs.TupleLemmas.{less_one}
 use Rattle.rc_fragment.proofs.stored.Stored.add_row.Goals as goal
 

@@ -1,12 +1,5 @@
 use Rattle.std.proofs.Common.{◌≡◌, sym, ap, subst, ◌∙◌}
-use Rattle.std.specs.Prelude.{List, length}
-use Rattle.rc_fragment.specs.Container.{now_in}
-use Rattle.rc_fragment.specs.Fragment.{AreWhole, IsFragment, seen_parts}
-use Rattle.rc_fragment.specs.FragmentRows.{without_promise}
-use Rattle.rc_fragment.specs.Listing.{AreStored, listing}
-use Rattle.rc_fragment.specs.Notes.{changes_of, taken_rows, undone}
-use Rattle.rc_fragment.specs.declared.edge_rows.EdgeRows.{EdgeRows}
-use Rattle.rc_fragment.specs.declared.stored.Parts.{Parts}
+use Rattle.rc_fragment.proofs.Imports.{List, length, now_in, AreWhole, IsFragment, seen_parts, without_promise, AreStored, listing, changes_of, taken_rows, undone, EdgeRows, Parts}
 use Rattle.rc_fragment.proofs.CopyLemmas.{same_fragment, same_rows_now}
 use Rattle.rc_fragment.proofs.NoteLemmas.{zero_least}
 use Rattle.rc_fragment.proofs.SourcesLemmas.{if_ok_from}

@@ -1,11 +1,5 @@
 use Rattle.std.proofs.Common.{[], sym, subst, ap, ◌∙◌}
-use Rattle.std.specs.Prelude.{length}
-use Rattle.rc_fragment.specs.Container.{now_in}
-use Rattle.rc_fragment.specs.Fragment.{IsFragment}
-use Rattle.rc_fragment.specs.FragmentRows.{FragmentRows}
-use Rattle.rc_fragment.specs.ImpliedTables.{IsTable}
-use Rattle.rc_fragment.specs.Listing.{shapes}
-use Rattle.rc_fragment.specs.Notes.{changes_of, undone}
+use Rattle.rc_fragment.proofs.Imports.{length, now_in, IsFragment, FragmentRows, IsTable, shapes, changes_of, undone}
 use Rattle.rc_fragment.proofs.NoteLemmas.{zero_least}
 use Rattle.rc_fragment.proofs.SourcesLemmas.{if_ok_from}
 use Rattle.rc_fragment.proofs.RowLemmas.{none_listed, empty_fragment}

@@ -1,7 +1,5 @@
 use Rattle.std.proofs.Common.{◌≡◌, ◌<◌, ℕ, false}
-use Rattle.rc_fragment.specs.Fragment.{HasShape}
-use Rattle.rc_fragment.specs.ImpliedTables.{is_kept_of_class}
-use Rattle.rc_fragment.specs.declared.shape.EdgeShape.{EdgeShape}
+use Rattle.rc_fragment.proofs.Imports.{HasShape, is_kept_of_class, EdgeShape}
 use Rattle.rc_fragment.proofs.stored.Stored.is_first_kept.Given as goal
 
 abbrev pub invariant-loop-before : goal.invariant-loop-before

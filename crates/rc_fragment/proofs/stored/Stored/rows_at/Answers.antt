@@ -1,14 +1,5 @@
 use Rattle.std.proofs.Common.{◌≡◌, ◌<◌, ℕ, length, Some, sym, subst, arith, get_or}
-use Rattle.std.specs.Prelude.{List}
-use Rattle.std.specs.List.{slice_get}
-use Rattle.std.proofs.lemmas.List.{length-map}
-use Rattle.rc_tuple.specs.RisingSetLaws.{slice_get_in}
-use Rattle.rc_fragment.specs.Fragment.{HasShape, IsScan}
-use Rattle.rc_fragment.specs.FragmentRows.{FragmentRows}
-use Rattle.rc_fragment.specs.Listing.{IsStored, shapes}
-use Rattle.rc_fragment.specs.declared.edge_rows.EdgeRows.{EdgeRows}
-use Rattle.rc_fragment.specs.declared.stored.Parts.{Parts}
-use Rattle.rc_fragment.specs.declared.shape.EdgeShape.{EdgeShape}
+use Rattle.rc_fragment.proofs.Imports.{List, slice_get, length-map, slice_get_in, HasShape, IsScan, FragmentRows, IsStored, shapes, EdgeRows, Parts, EdgeShape}
 use Rattle.rc_fragment.proofs.ChangeLemmas.{found_edge}
 use Rattle.rc_fragment.proofs.KeptLemmas.{filed_there}
 use Rattle.rc_fragment.proofs.LookupLemmas.{rows_law}

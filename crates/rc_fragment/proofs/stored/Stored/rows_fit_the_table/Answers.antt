@@ -1,12 +1,4 @@
-use Rattle.std.proofs.Common.{subst}
-use Rattle.std.specs.Prelude.{List}
-use Rattle.rc_fragment.specs.Container.{now_in}
-use Rattle.rc_fragment.specs.Fragment.{AreRowsOf}
-use Rattle.rc_fragment.specs.FragmentRows.{FragmentRows}
-use Rattle.rc_fragment.specs.declared.edge_rows.EdgeRows.{EdgeRows}
-use Rattle.rc_fragment.specs.Listing.{listing, shapes}
-use Rattle.rc_fragment.specs.Notes.{changes_of}
-use Rattle.rc_fragment.specs.declared.stored.Parts.{Parts}
+use Rattle.rc_fragment.proofs.Imports.{subst, List, now_in, AreRowsOf, FragmentRows, EdgeRows, listing, shapes, changes_of, Parts}
 use Rattle.rc_fragment.proofs.PlaceLemmas.{noted_of_table}
 use Rattle.rc_fragment.proofs.RowLemmas.{filed_now, rows_of_table}
 use Rattle.rc_fragment.proofs.UndoLemmas.{rows_undone}

@@ -1,11 +1,5 @@
 use Rattle.std.proofs.Common.{◌≡◌, ◌++◌, Some, length, subst, sym, ap, ◌∙◌}
-use Rattle.std.specs.List.{flat_map, zip}
-use Rattle.std.specs.Prelude.{map}
-use Rattle.rc_edges.specs.Values.{Values}
-use Rattle.rc_fragment.specs.FragmentRows.{FragmentRows}
-use Rattle.rc_fragment.specs.ImpliedReads.{HasListed}
-use Rattle.rc_fragment.specs.RowValues.{HaveWidth}
-use Rattle.rc_fragment.specs.declared.shape.EdgeShape.{EdgeShape}
+use Rattle.rc_fragment.proofs.Imports.{flat_map, zip, map, Values, FragmentRows, HasListed, HaveWidth, EdgeShape}
 use Rattle.rc_fragment.proofs.SourceReadLemmas.{source_widths}
 use Rattle.rc_fragment.proofs.SourcesLemmas.{if_ok_from}
 use Rattle.rc_fragment.proofs.stored.Stored.sources.Goals as goal

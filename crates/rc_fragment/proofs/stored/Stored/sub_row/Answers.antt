@@ -1,10 +1,5 @@
 use Rattle.std.proofs.Common.{◌≡◌, sym, ap, subst, ◌∙◌}
-use Rattle.rc_spec.specs.CountedRows.{lowered}
-use Rattle.rc_fragment.specs.Container.{now_in}
-use Rattle.rc_fragment.specs.Fragment.{IsThere, edge_row, seen_parts}
-use Rattle.rc_fragment.specs.FragmentRows.{FragmentRows, changed}
-use Rattle.rc_fragment.specs.Listing.{listing, shapes}
-use Rattle.rc_fragment.specs.declared.stored.Parts.{Parts}
+use Rattle.rc_fragment.proofs.Imports.{lowered, now_in, IsThere, edge_row, seen_parts, FragmentRows, changed, listing, shapes, Parts}
 use Rattle.rc_fragment.proofs.TupleLemmas.{less_one}
 use Rattle.rc_fragment.proofs.stored.Stored.sub_row.Goals as goal
 

@@ -1,8 +1,5 @@
 use Rattle.std.proofs.Common.{◌≡◌, ◌≤◌, length, map, replicate, None, sym, ap, subst, ◌∙◌, arith}
-use Rattle.std.specs.Prelude.{List}
-use Rattle.std.proofs.lemmas.List.{length-map}
-use Rattle.rc_fragment.specs.Keep.{KeptRows, at_rest}
-use Rattle.rc_instance.specs.Instance.{IsInstance, stripes_of}
+use Rattle.rc_instance.proofs.Imports.{List, length-map, KeptRows, at_rest, IsInstance, stripes_of}
 use Rattle.rc_instance.proofs.NumberLemmas.{numbers-free}
 use Rattle.rc_instance.proofs.StripesOfLemmas.{instance_of, kept_one_table, kept_rest, stripes_of-kept}
 use Rattle.rc_instance.proofs.instance.Instance.from_kept.Goals as goal

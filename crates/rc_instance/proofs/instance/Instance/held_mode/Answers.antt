@@ -1,10 +1,5 @@
 use Rattle.std.proofs.Common.{◌≡◌, ◌<◌, length, sym, ap, ◌∙◌, arith, Some}
-use Rattle.std.specs.Prelude.{List, Option}
-use Rattle.std.specs.List.{slice_get}
-use Rattle.rc_spec.specs.declared.lock.Mode.{Mode}
-use Rattle.rc_fragment.specs.FragmentRows.{FragmentRows}
-use Rattle.rc_instance.specs.Instance.{held_mode, mode_in}
-use Rattle.rc_instance.specs.InstanceLaws.{place_in}
+use Rattle.rc_instance.proofs.Imports.{List, Option, slice_get, Mode, FragmentRows, held_mode, mode_in, place_in}
 use Rattle.rc_instance.proofs.ChangeLemmas.{fragment_below}
 use Rattle.rc_instance.proofs.StripesOfLemmas.{stripes_of-there}
 use Rattle.rc_instance.proofs.instance.Instance.held_mode.Goals as goal

@@ -1,7 +1,5 @@
 use Rattle.std.proofs.Common.{◌≡◌, ◌≤◌, arith, length, map, sym, ap, ◌∙◌}
-use Rattle.std.specs.Prelude.{List}
-use Rattle.rc_fragment.specs.Keep.{KeptRows, kept_rows}
-use Rattle.rc_instance.specs.Instance.{Stripe, held_from, kept_stripe}
+use Rattle.rc_instance.proofs.Imports.{List, KeptRows, kept_rows, Stripe, held_from, kept_stripe}
 use Rattle.rc_instance.proofs.KeptLemmas.{free_at_rest, fragments_kept, kept_again, many_fragments}
 use Rattle.rc_instance.proofs.instance.Instance.into_kept.Goals as goal
 

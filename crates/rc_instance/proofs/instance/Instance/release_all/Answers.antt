@@ -1,10 +1,5 @@
 use Rattle.std.proofs.Common.{◌≡◌, ◌<◌, ◌++◌, ℕ, None, length, take, drop, sym, ap, subst, ◌∙◌, arith}
-use Rattle.std.specs.Prelude.{List, Option, map}
-use Rattle.rc_tuple.specs.RisingSet.{In}
-use Rattle.rc_spec.specs.declared.lock.Mode.{Mode}
-use Rattle.rc_fragment.specs.FragmentRows.{FragmentRows, settled}
-use Rattle.rc_instance.specs.Fragments.{each_at}
-use Rattle.rc_instance.specs.Instance.{stripes_of, AreReleased, IsWholeInstance}
+use Rattle.rc_instance.proofs.Imports.{List, Option, map, In, Mode, FragmentRows, settled, each_at, stripes_of, AreReleased, IsWholeInstance}
 use Rattle.rc_instance.proofs.AlikeLemmas.{written}
 use Rattle.rc_instance.proofs.NumberLemmas.{all_settled, are_below, are_released, whole_released}
 use Rattle.rc_instance.proofs.instance.Instance.release_all.Goals as goal

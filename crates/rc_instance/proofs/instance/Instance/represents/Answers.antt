@@ -1,13 +1,5 @@
 use Rattle.std.proofs.Common.{◌≡◌, sym, ap, subst, ◌∙◌}
-use Rattle.std.specs.Prelude.{List, Option}
-use Rattle.rc_tuple.specs.RisingSet.{In}
-use Rattle.rc_spec.specs.Acceptance.{IsSealed}
-use Rattle.rc_spec.specs.Fragments.{represented_by}
-use Rattle.rc_spec.specs.declared.lock.Mode.{Mode}
-use Rattle.rc_fragment.specs.Fragment.{edge_table}
-use Rattle.rc_fragment.specs.FragmentRows.{FragmentRows}
-use Rattle.rc_instance.specs.Instance.{IsOfRelation, held_from, rows_of, rows_of_fragments, stripes_of, table_of, table_of_fragments}
-use Rattle.rc_instance.specs.RelationLaws.{free_law}
+use Rattle.rc_instance.proofs.Imports.{List, Option, In, IsSealed, represented_by, Mode, edge_table, FragmentRows, IsOfRelation, held_from, rows_of, rows_of_fragments, stripes_of, table_of, table_of_fragments, free_law}
 use Rattle.rc_instance.proofs.StripeLemmas.{if_ok_from}
 use Rattle.rc_instance.proofs.StripesOfLemmas.{fragments_have_one_table, stripes_of-rows, stripes_of-table}
 use Rattle.rc_instance.proofs.instance.Instance.represents.Goals as goal

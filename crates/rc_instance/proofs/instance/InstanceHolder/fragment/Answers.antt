@@ -1,6 +1,5 @@
 use Rattle.std.proofs.Common.{◌<◌, length, sym, subst, arith}
-use Rattle.rc_fragment.specs.Holder.{IsLent}
-use Rattle.rc_instance.specs.Instance.{holding}
+use Rattle.rc_instance.proofs.Imports.{IsLent, holding}
 use Rattle.rc_instance.proofs.ChangeLemmas as change
 use Rattle.rc_instance.proofs.instance.InstanceHolder.fragment.Goals as goal
 

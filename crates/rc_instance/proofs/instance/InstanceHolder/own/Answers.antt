@@ -1,6 +1,5 @@
 use Rattle.std.proofs.Common.{◌≡◌, ◌<◌, length, ap, arith}
-use Rattle.rc_fragment.specs.FragmentRows.{FragmentRows}
-use Rattle.rc_instance.specs.Instance.{holding}
+use Rattle.rc_instance.proofs.Imports.{FragmentRows, holding}
 use Rattle.rc_instance.proofs.ChangeLemmas as change
 use Rattle.rc_instance.proofs.StripeLemmas.{either_way, exclusive_is_held, on_err_from, on_ok_from}
 use Rattle.rc_instance.proofs.instance.InstanceHolder.own.Goals as goal

@@ -1,6 +1,5 @@
 use Rattle.std.proofs.Common.{◌<◌, length, ap, arith}
-use Rattle.rc_fragment.specs.FragmentRows.{FragmentRows}
-use Rattle.rc_fragment.specs.Implied.{lowered_all}
+use Rattle.rc_instance.proofs.Imports.{FragmentRows, lowered_all}
 use Rattle.rc_instance.proofs.ChangeLemmas as change
 use Rattle.rc_instance.proofs.StripeLemmas.{exclusive_is_held}
 use Rattle.rc_instance.proofs.instance.InstanceHolder.sub_tuple.Goals as goal

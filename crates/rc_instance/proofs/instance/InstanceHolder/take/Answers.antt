@@ -1,6 +1,5 @@
 use Rattle.std.proofs.Common.{◌<◌, length, sym, subst, arith}
-use Rattle.rc_instance.specs.Instance.{IsWholeInstance}
-use Rattle.rc_instance.specs.InstanceLaws.{offered-length}
+use Rattle.rc_instance.proofs.Imports.{IsWholeInstance, offered-length}
 use Rattle.rc_instance.proofs.ChangeLemmas as change
 use Rattle.rc_instance.proofs.instance.InstanceHolder.take.Goals as goal
 

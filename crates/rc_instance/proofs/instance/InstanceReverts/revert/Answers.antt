@@ -1,9 +1,5 @@
 use Rattle.std.proofs.Common.{◌≡◌, ◌<◌, ◌++◌, ℕ, refl, length, take, drop, sym, ap, subst, ◌∙◌, arith}
-use Rattle.std.specs.Prelude.{List, map}
-use Rattle.rc_tuple.specs.RisingSet.{In}
-use Rattle.rc_fragment.specs.FragmentRows.{FragmentRows, rolled_back}
-use Rattle.rc_instance.specs.Fragments.{each_at}
-use Rattle.rc_instance.specs.Instance.{holding, stripes_of, IsOfOneRelation, IsWholeInstance}
+use Rattle.rc_instance.proofs.Imports.{List, map, In, FragmentRows, rolled_back, each_at, holding, stripes_of, IsOfOneRelation, IsWholeInstance}
 use Rattle.rc_instance.proofs.AlikeLemmas.{written}
 use Rattle.rc_instance.proofs.NumberLemmas.{all_rolled_back, are_below, whole_reverted}
 use Rattle.rc_instance.proofs.RevertLemmas.{holding-reverted, reverted_stripe, sound-reverted, stripes_of-reverted}

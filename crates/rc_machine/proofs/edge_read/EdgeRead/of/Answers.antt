@@ -1,7 +1,5 @@
 use Rattle.std.proofs.Common.{◌≡◌, ◌<◌, length, subst, sym, ap, ◌∙◌}
-use Rattle.rc_spec.specs.Placement.{class_at, class_of}
-use Rattle.rc_spec.specs.declared.spec.Spec.{Spec}
-use Rattle.rc_plan.specs.Resolved.{IsResolvedEdge}
+use Rattle.rc_machine.proofs.Imports.{class_at, class_of, Spec, IsResolvedEdge}
 use Rattle.rc_machine.proofs.ReadLemmas.{class_known}
 use Rattle.rc_machine.proofs.edge_read.EdgeRead.of.Goals as goal
 

@@ -1,11 +1,5 @@
 use Rattle.std.proofs.Common.{◌≡◌, ◌+◌, length, subst, sym, ap, ◌∙◌, arith}
-use Rattle.rc_spec.specs.DecompositionLaws.{class_among}
-use Rattle.rc_spec.specs.InRange.{IsSetBelow}
-use Rattle.rc_spec.specs.Placement.{class_of}
-use Rattle.rc_spec.specs.PlacementLaws.{physical_stripe_below, placed_total}
-use Rattle.rc_spec.specs.Stripes.{band_start, physical_stripe, stripe_of}
-use Rattle.rc_spec.specs.declared.items.Class.{Class}
-use Rattle.rc_spec.specs.declared.spec.Spec.{Spec}
+use Rattle.rc_machine.proofs.Imports.{class_among, IsSetBelow, class_of, physical_stripe_below, placed_total, band_start, physical_stripe, stripe_of, Class, Spec}
 use Rattle.rc_machine.proofs.ReadLemmas.{class_known}
 use Rattle.rc_machine.proofs.edge_read.EdgeRead.stripe_of.Goals as goal
 use Rattle.rc_machine.proofs.edge_read.EdgeRead.stripe_of.Goals.{After-stripe_of}

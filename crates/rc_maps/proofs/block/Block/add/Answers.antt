@@ -1,12 +1,6 @@
 use Rattle.std.proofs.Common.{◌≡◌, ◌+◌, ◌<◌, ◌^◌, ◌∷◌, [], None, Some, arith, sym, ap, subst, ◌∙◌}
-use Rattle.std.specs.Prelude.{insert, slice_set}
+use Rattle.rc_maps.proofs.Imports.{insert, slice_set, Values, Rows, count_of, IsAt, IsGap, IsKeyed, rows_in, get_none, items_of, IsWritten, kept_at, put_row, set_row}
 use Rattle.std.specs.FinMap as fin
-use Rattle.rc_edges.specs.Values.{Values}
-use Rattle.rc_edges.specs.EdgeMap.{Rows, count_of}
-use Rattle.rc_edges.specs.ListMap.{IsAt, IsGap, IsKeyed, rows_in}
-use Rattle.rc_edges.specs.ListMapLaws.{get_none}
-use Rattle.rc_maps.specs.Block.{items_of}
-use Rattle.rc_maps.specs.BlockLaws.{IsWritten, kept_at, put_row, set_row}
 use Rattle.rc_maps.proofs.block.Block.add.Goals as goal
 use Rattle.rc_maps.proofs.block.Block.add.Goals.{After-index, In-Err}
 

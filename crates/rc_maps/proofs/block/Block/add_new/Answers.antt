@@ -1,13 +1,6 @@
 use Rattle.std.proofs.Common.{◌≡◌, ◌∷◌, [], None, Some, refl, arith, sym, ap, subst, ◌∙◌}
-use Rattle.std.specs.Prelude.{IsSome, insert, slice_set}
-use Rattle.std.specs.Option.{option_and_then}
+use Rattle.rc_maps.proofs.Imports.{IsSome, insert, slice_set, option_and_then, Values, present, IsAt, IsGap, IsKeyed, rows_in, get_none, items_of, IsWritten, gone_in, kept_at, none_other, present_gone, present_there, put_row, set_row}
 use Rattle.std.specs.FinMap as fin
-use Rattle.rc_edges.specs.Values.{Values}
-use Rattle.rc_edges.specs.EdgeMap.{present}
-use Rattle.rc_edges.specs.ListMap.{IsAt, IsGap, IsKeyed, rows_in}
-use Rattle.rc_edges.specs.ListMapLaws.{get_none}
-use Rattle.rc_maps.specs.Block.{items_of}
-use Rattle.rc_maps.specs.BlockLaws.{IsWritten, gone_in, kept_at, none_other, present_gone, present_there, put_row, set_row}
 use Rattle.rc_maps.proofs.block.Block.add_new.Goals as goal
 use Rattle.rc_maps.proofs.block.Block.add_new.Goals.{After-index, In-Err}
 

@@ -1,7 +1,5 @@
 use Rattle.std.proofs.Common.{sym, ap, ◌∙◌}
-use Rattle.std.specs.List.{slice_get}
-use Rattle.rc_maps.specs.Blocks.{begin_by}
-use Rattle.rc_maps.specs.BlockLaws.{begins_no_key, begins_no_row, begins_row, entries_are}
+use Rattle.rc_maps.proofs.Imports.{slice_get, begin_by, begins_no_key, begins_no_row, begins_row, entries_are}
 use Rattle.rc_maps.proofs.block.Block.begins_by.Goals as goal
 
 pub returns-in-Some-Some : goal.returns-in-Some-Some

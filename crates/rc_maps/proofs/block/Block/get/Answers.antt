@@ -1,10 +1,6 @@
 use Rattle.std.proofs.Common.{◌≡◌, Some, arith, sym, ap, subst, ◌∙◌}
 use Rattle.std.specs.FinMap as fin
-use Rattle.std.specs.Option.{option_and_then}
-use Rattle.rc_edges.specs.EdgeMap.{extra_of, present}
-use Rattle.rc_edges.specs.ListMap.{IsAt, IsKeyed}
-use Rattle.rc_maps.specs.Block.{items_of}
-use Rattle.rc_maps.specs.BlockLaws.{kept_at, present_gone, present_there}
+use Rattle.rc_maps.proofs.Imports.{option_and_then, extra_of, present, IsAt, IsKeyed, items_of, kept_at, present_gone, present_there}
 use Rattle.rc_maps.proofs.block.Block.get.Goals as goal
 use Rattle.rc_maps.proofs.block.Block.get.Goals.{After-index-row}
 

@@ -1,8 +1,6 @@
 use Rattle.std.proofs.Common.{◌≡◌, ◌/◌, length, refl, sym, ap, ◌∙◌}
 use Rattle.std.specs.FinMap as fin
-use Rattle.rc_edges.specs.ListMap.{rows_in}
-use Rattle.rc_maps.specs.Block.{items_of}
-use Rattle.rc_maps.specs.BlockLaws.{halved, len_is}
+use Rattle.rc_maps.proofs.Imports.{rows_in, items_of, halved, len_is}
 use Rattle.rc_maps.proofs.block.Block.halves.Goals as goal
 
 pub invariant_of-result : goal.invariant_of-result

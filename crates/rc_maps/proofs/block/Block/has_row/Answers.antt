@@ -1,13 +1,7 @@
 use Rattle.std.proofs.Common.{◌<◌, arith, ap, subst, ◌∙◌}
 use Rattle.std.specs.Prelude.{◌↔◌}
-use Rattle.std.specs.Bool.{IsTrue}
-use Rattle.std.specs.List.{list_any}
+use Rattle.rc_maps.proofs.Imports.{IsTrue, list_any, Rows, current, is_filled, has_row-items, item_of, items_of, list_any-map}
 use Rattle.std.specs.FinMap as fin
-use Rattle.rc_edges.specs.EdgeMap.{Rows, current}
-use Rattle.rc_edges.specs.ListMap.{is_filled}
-use Rattle.rc_edges.specs.ListMapLaws.{has_row-items}
-use Rattle.rc_maps.specs.Block.{item_of, items_of}
-use Rattle.rc_maps.specs.BlockLaws.{list_any-map}
 use Rattle.rc_maps.proofs.block.Block.has_row.Goals as goal
 
 pub has_filled-requires : goal.has_filled-requires

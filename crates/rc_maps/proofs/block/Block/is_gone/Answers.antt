@@ -1,8 +1,6 @@
 use Rattle.std.proofs.Common.{◌≡◌, length, sym, ap, ◌∙◌}
 use Rattle.std.specs.Prelude.{◌==◌}
-use Rattle.std.proofs.lemmas.List.{length-map}
-use Rattle.rc_edges.specs.ListMapLaws.{gone_rows}
-use Rattle.rc_maps.specs.Block.{item_of, items_of}
+use Rattle.rc_maps.proofs.Imports.{length-map, gone_rows, item_of, items_of}
 use Rattle.rc_maps.proofs.block.Block.is_gone.Goals as goal
 
 pub returns : goal.returns

@@ -1,11 +1,6 @@
 use Rattle.std.proofs.Common.{◌≡◌, ℕ, ◌+◌, None, Some, take, sym, ap, ◌∙◌, arith}
 use Rattle.std.specs.FinMap as fin
-use Rattle.std.proofs.lemmas.List.{take_all}
-use Rattle.rc_edges.specs.EdgeMap.{Rows, current, extra_of}
-use Rattle.rc_edges.specs.ListMap.{count_in}
-use Rattle.rc_edges.specs.ListMapLaws.{len-rows}
-use Rattle.rc_maps.specs.Block.{items_of}
-use Rattle.rc_maps.specs.BlockLaws.{counted, present_gone, present_there}
+use Rattle.rc_maps.proofs.Imports.{take_all, Rows, current, extra_of, count_in, len-rows, items_of, counted, present_gone, present_there}
 use Rattle.rc_maps.proofs.block.Block.len.Goals as goal
 use Rattle.rc_maps.proofs.block.Block.len.Goals.{then-row-gt0, else-row-gt0}
 

@@ -1,6 +1,5 @@
 use Rattle.std.proofs.Common.{◌≡◌, ◌≤◌, take}
-use Rattle.rc_edges.specs.ListMap.{count_in}
-use Rattle.rc_maps.specs.Block.{items_of}
+use Rattle.rc_maps.proofs.Imports.{count_in, items_of}
 use Rattle.rc_maps.proofs.block.Block.len.Given as goal
 
 abbrev pub invariant-loop-row : goal.invariant-loop-row

@@ -1,11 +1,6 @@
 use Rattle.std.proofs.Common.{◌≡◌, Some, ap, subst, ◌∙◌}
-use Rattle.std.specs.Prelude.{slice_set}
+use Rattle.rc_maps.proofs.Imports.{slice_set, Values, HasAsMany, IsAt, items_of, IsWritten, at_key, kept_at, set_row}
 use Rattle.std.specs.FinMap as fin
-use Rattle.rc_edges.specs.Values.{Values}
-use Rattle.rc_edges.specs.EdgeMap.{HasAsMany}
-use Rattle.rc_edges.specs.ListMap.{IsAt}
-use Rattle.rc_maps.specs.Block.{items_of}
-use Rattle.rc_maps.specs.BlockLaws.{IsWritten, at_key, kept_at, set_row}
 use Rattle.rc_maps.proofs.block.Block.put_back.Goals as goal
 use Rattle.rc_maps.proofs.block.Block.put_back.Goals.{After-copy_from_slice, After-index}
 

@@ -1,8 +1,5 @@
 use Rattle.std.proofs.Common.{◌++◌, sym, ap, ◌∙◌}
-use Rattle.rc_edges.specs.EdgeMap.{Rows, listed}
-use Rattle.rc_edges.specs.ListMap.{values_in}
-use Rattle.rc_edges.specs.ListMapLaws.{listed-rows}
-use Rattle.rc_maps.specs.Block.{items_of}
+use Rattle.rc_maps.proofs.Imports.{Rows, listed, values_in, listed-rows, items_of}
 use Rattle.rc_maps.proofs.block.Block.scan.Goals as goal
 
 pub returns-clause-ok : goal.returns-clause-ok

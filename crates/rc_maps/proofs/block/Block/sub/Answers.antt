@@ -1,12 +1,6 @@
 use Rattle.std.proofs.Common.{◌≡◌, ◌-◌, ◌<◌, Some, arith, sym, ap, subst, ◌∙◌}
-use Rattle.std.specs.Prelude.{IsSome, slice_set}
+use Rattle.rc_maps.proofs.Imports.{IsSome, slice_set, option_and_then, count_of, one_less, present, written, IsAt, counts, items_of, IsWritten, at_key, kept_at, set_row}
 use Rattle.std.specs.FinMap as fin
-use Rattle.std.specs.Option.{option_and_then}
-use Rattle.rc_edges.specs.EdgeMap.{count_of, one_less, present, written}
-use Rattle.rc_edges.specs.ListMap.{IsAt}
-use Rattle.rc_edges.specs.RowsLaws.{counts}
-use Rattle.rc_maps.specs.Block.{items_of}
-use Rattle.rc_maps.specs.BlockLaws.{IsWritten, at_key, kept_at, set_row}
 use Rattle.rc_maps.proofs.block.Block.sub.Goals as goal
 use Rattle.rc_maps.proofs.block.Block.sub.Goals.{After-index-row}
 

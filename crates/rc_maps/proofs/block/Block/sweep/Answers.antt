@@ -1,9 +1,6 @@
 use Rattle.std.proofs.Common.{◌≡◌, None, arith, sym, ap, subst, ◌∙◌}
 use Rattle.std.specs.FinMap as fin
-use Rattle.rc_edges.specs.ListMap.{IsAt, IsKeyed, rows_in}
-use Rattle.rc_edges.specs.ListMapLaws.{swept_none}
-use Rattle.rc_maps.specs.Block.{items_of}
-use Rattle.rc_maps.specs.BlockLaws.{gone_in, out_keyed, out_swept, stays_swept}
+use Rattle.rc_maps.proofs.Imports.{IsAt, IsKeyed, rows_in, swept_none, items_of, gone_in, out_keyed, out_swept, stays_swept}
 use Rattle.rc_maps.proofs.block.Block.sweep.Goals as goal
 use Rattle.rc_maps.proofs.block.Block.sweep.Goals.{After-index}
 

@@ -1,8 +1,6 @@
 use Rattle.std.proofs.Common.{◌<◌, ◌^◌, arith, sym, ap, subst, ◌∙◌}
 use Rattle.std.specs.FinMap as fin
-use Rattle.rc_edges.specs.EdgeMap.{count_of}
-use Rattle.rc_edges.specs.ListMap.{rows_in}
-use Rattle.rc_maps.specs.BlocksLaws.{HasOwn, count_before, own_get, raised_are, raised_ok, stays_err}
+use Rattle.rc_maps.proofs.Imports.{count_of, rows_in, HasOwn, count_before, own_get, raised_are, raised_ok, stays_err}
 use Rattle.rc_maps.proofs.blocks.Blocks.add.Goals as goal
 use Rattle.rc_maps.proofs.blocks.Blocks.add.Goals.{After-index_mut}
 

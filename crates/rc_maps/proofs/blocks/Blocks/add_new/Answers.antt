@@ -1,7 +1,6 @@
 use Rattle.std.proofs.Common.{◌<◌, arith, sym, ap, subst, ◌∙◌}
 use Rattle.std.specs.FinMap as fin
-use Rattle.rc_edges.specs.ListMap.{rows_in}
-use Rattle.rc_maps.specs.BlocksLaws.{HasOwn, added_are, added_ok, own_found, stays_err}
+use Rattle.rc_maps.proofs.Imports.{rows_in, HasOwn, added_are, added_ok, own_found, stays_err}
 use Rattle.rc_maps.proofs.blocks.Blocks.add_new.Goals as goal
 use Rattle.rc_maps.proofs.blocks.Blocks.add_new.Goals.{After-index_mut}
 

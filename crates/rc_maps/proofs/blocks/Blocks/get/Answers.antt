@@ -1,7 +1,5 @@
 use Rattle.std.proofs.Common.{◌<◌, length, sym, ap, subst, ◌∙◌}
-use Rattle.rc_edges.specs.EdgeMap.{extra_of}
-use Rattle.rc_maps.specs.Blocks.{IsOwn}
-use Rattle.rc_maps.specs.BlocksLaws.{HasOwn, own_found}
+use Rattle.rc_maps.proofs.Imports.{extra_of, IsOwn, HasOwn, own_found}
 use Rattle.rc_maps.proofs.blocks.Blocks.get.Goals as goal
 use Rattle.rc_maps.proofs.blocks.Blocks.get.Goals.{After-get}
 

@@ -1,6 +1,5 @@
 use Rattle.std.proofs.Common.{rules, tests, ◌∙◌}
-use Rattle.std.proofs.lemmas.Iterator.{YieldsList-from_slice, cases_from_any}
-use Rattle.rc_maps.specs.BlocksWalkLaws.{HasRow, has_any}
+use Rattle.rc_maps.proofs.Imports.{YieldsList-from_slice, cases_from_any, HasRow, has_any}
 use Rattle.rc_maps.proofs.blocks.Blocks.has_row.Goals as goal
 
 pub returns : goal.returns

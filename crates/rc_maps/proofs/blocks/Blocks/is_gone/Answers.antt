@@ -1,10 +1,7 @@
 use Rattle.std.proofs.Common.{◌≡◌, sym, subst, ◌∙◌}
 use Rattle.std.specs.Prelude.{◌↔◌}
-use Rattle.std.specs.Bool.{IsTrue}
+use Rattle.rc_maps.proofs.Imports.{IsTrue, eqb-true, Rows, gone_alone, gone_none}
 use Rattle.std.specs.FinMap as fin
-use Rattle.std.proofs.lemmas.Bool.{eqb-true}
-use Rattle.rc_edges.specs.EdgeMap.{Rows}
-use Rattle.rc_maps.specs.BlocksWalkLaws.{gone_alone, gone_none}
 use Rattle.rc_maps.proofs.blocks.Blocks.is_gone.Goals as goal
 
 pub returns-then-len-eq1 : goal.returns-then-len-eq1

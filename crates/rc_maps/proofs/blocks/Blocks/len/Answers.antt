@@ -1,7 +1,5 @@
 use Rattle.std.proofs.Common.{of_calls, rules, sym, tests, ◌∙◌}
-use Rattle.std.proofs.lemmas.Iterator.{YieldsList-from_map, YieldsList-from_slice}
-use Rattle.std.proofs.lemmas.Iterator.Consumers.{YieldsList-at, fits_by_from_yields_list, sum_by_from_yields_List}
-use Rattle.rc_maps.specs.BlocksWalkLaws.{len_all, len_sum, row_count, rows_fit}
+use Rattle.rc_maps.proofs.Imports.{YieldsList-from_map, YieldsList-from_slice, YieldsList-at, fits_by_from_yields_list, sum_by_from_yields_List, len_all, len_sum, row_count, rows_fit}
 use Rattle.rc_maps.proofs.blocks.Blocks.len.Goals as goal
 
 pub sum-requires : goal.sum-requires

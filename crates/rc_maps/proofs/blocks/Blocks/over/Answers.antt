@@ -1,6 +1,5 @@
 use Rattle.std.proofs.Common.{◌≡◌, ◌++◌, ◌∷◌, [], sym, ap, subst, ◌∙◌}
-use Rattle.rc_maps.specs.BlocksLaws.{AreOf}
-use Rattle.rc_maps.specs.BlocksWalkLaws.{one_block}
+use Rattle.rc_maps.proofs.Imports.{AreOf, one_block}
 use Rattle.rc_maps.proofs.blocks.Blocks.over.Goals as goal
 use Rattle.rc_maps.proofs.blocks.Blocks.over.Goals.{In_ok-push}
 

@@ -1,9 +1,6 @@
 use Rattle.std.proofs.Common.{◌<◌, length, arith, sym, subst}
-use Rattle.std.specs.Prelude.{slice_set}
+use Rattle.rc_maps.proofs.Imports.{slice_set, HasAsMany, Rows, IsOwn, AreOf, HasOwn, as_many_some, own_get, own_set}
 use Rattle.std.specs.FinMap as fin
-use Rattle.rc_edges.specs.EdgeMap.{HasAsMany, Rows}
-use Rattle.rc_maps.specs.Blocks.{IsOwn}
-use Rattle.rc_maps.specs.BlocksLaws.{AreOf, HasOwn, as_many_some, own_get, own_set}
 use Rattle.rc_maps.proofs.blocks.Blocks.put_back.Goals as goal
 use Rattle.rc_maps.proofs.blocks.Blocks.put_back.Goals.{After-index_mut, After-put_back}
 

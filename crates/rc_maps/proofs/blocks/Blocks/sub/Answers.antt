@@ -1,8 +1,5 @@
 use Rattle.std.proofs.Common.{◌<◌, length, arith, sym, ap, subst, ◌∙◌}
-use Rattle.std.specs.Prelude.{IsSome, slice_set}
-use Rattle.rc_edges.specs.EdgeMap.{count_of, once_less}
-use Rattle.rc_maps.specs.Blocks.{IsOwn}
-use Rattle.rc_maps.specs.BlocksLaws.{AreOf, HasOwn, own_found, own_get, own_lowered}
+use Rattle.rc_maps.proofs.Imports.{IsSome, slice_set, count_of, once_less, IsOwn, AreOf, HasOwn, own_found, own_get, own_lowered}
 use Rattle.rc_maps.proofs.blocks.Blocks.sub.Goals as goal
 use Rattle.rc_maps.proofs.blocks.Blocks.sub.Goals.{After-index_mut, After-sub}
 

@@ -1,9 +1,6 @@
 use Rattle.std.proofs.Common.{◌<◌, length, arith, sym, subst, ◌∙◌}
-use Rattle.std.specs.Prelude.{slice_set}
+use Rattle.rc_maps.proofs.Imports.{slice_set, swept, IsOwn, AreOf, HasOwn, none_left, own_out, own_swept, some_left}
 use Rattle.std.specs.FinMap as fin
-use Rattle.rc_edges.specs.EdgeMap.{swept}
-use Rattle.rc_maps.specs.Blocks.{IsOwn}
-use Rattle.rc_maps.specs.BlocksLaws.{AreOf, HasOwn, none_left, own_out, own_swept, some_left}
 use Rattle.rc_maps.proofs.blocks.Blocks.sweep.Goals as goal
 use Rattle.rc_maps.proofs.blocks.Blocks.sweep.Goals.{After-index_mut, After-remove, After-sweep, else-at-gt0-via-else-at-gt0, else-at-gt0-via-then-at-gt0+else-is_gone}
 

@@ -1,10 +1,4 @@
-use Rattle.std.proofs.Common.{Some, sym, ap, subst}
-use Rattle.std.specs.Option.{option_and_then}
-use Rattle.std.proofs.lemmas.Result.{on_err_weaker}
-use Rattle.rc_edges.specs.EdgeMap.{HasWidth, present}
-use Rattle.rc_edges.specs.OneMapLaws.{if_ok}
-use Rattle.rc_edges.specs.RowsLaws.{started_at, started_new}
-use Rattle.rc_maps.specs.TableLaws.{on_some, stays}
+use Rattle.rc_maps.proofs.Imports.{Some, sym, ap, subst, option_and_then, on_err_weaker, HasWidth, present, if_ok, started_at, started_new, on_some, stays}
 use Rattle.rc_maps.proofs.entry_table.EntryTable.add_new_any.Goals as goal
 
 pub put-requires : goal.put-requires

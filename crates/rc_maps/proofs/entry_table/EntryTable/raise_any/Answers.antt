@@ -1,6 +1,4 @@
-use Rattle.std.proofs.Common.{Some, sym, ap}
-use Rattle.std.proofs.lemmas.Result.{on_err_weaker, on_ok_weaker}
-use Rattle.rc_maps.specs.TableLaws.{on_some, raised, stays}
+use Rattle.rc_maps.proofs.Imports.{Some, sym, ap, on_err_weaker, on_ok_weaker, on_some, raised, stays}
 use Rattle.rc_maps.proofs.entry_table.EntryTable.raise_any.Goals as goal
 
 pub returns-in-Some-clause-ok : goal.returns-in-Some-clause-ok

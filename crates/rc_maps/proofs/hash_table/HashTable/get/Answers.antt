@@ -1,9 +1,7 @@
 use Rattle.std.proofs.Common.{sym, ap, ◌∙◌}
 use Rattle.std.specs.FinMap as fin
 use Rattle.rc_maps.specs.HashTable.{entries_of}
-use Rattle.rc_maps.specs.TableLaws.{no_one}
-use Rattle.rc_maps.specs.HashLaws.{found_many, found_one}
-use Rattle.rc_maps.specs.SplitLaws.{found_two, others-found, pairs-found}
+use Rattle.rc_maps.proofs.Imports.{no_one, found_many, found_one, found_two, others-found, pairs-found}
 use Rattle.rc_maps.proofs.hash_table.HashTable.get.Goals as goal
 
 pub returns-in-Some : goal.returns-in-Some

@@ -1,12 +1,7 @@
 use Rattle.std.proofs.Common.{◌≡◌, Some, length, refl, sym, ap, ◌∙◌, arith}
 use Rattle.std.specs.FinMap as fin
-use Rattle.std.proofs.lemmas.Option.{IfSome_then}
+use Rattle.rc_maps.proofs.Imports.{IfSome_then, no_one, on_found, changed_one, found_one, same_others, same_pairs, others-changed, others-found, pairs-changed, pairs-found}
 use Rattle.rc_maps.specs.HashTable.{entries_of}
-use Rattle.rc_maps.specs.TableLaws.{no_one, on_found}
-use Rattle.rc_maps.specs.HashLaws.{changed_one, found_one}
-use Rattle.rc_maps.specs.OtherKeys.{same_others}
-use Rattle.rc_maps.specs.PairKeys.{same_pairs}
-use Rattle.rc_maps.specs.SplitLaws.{others-changed, others-found, pairs-changed, pairs-found}
 use Rattle.rc_maps.specs.declared.hash_table.HashTable.TheVariants as table
 use Rattle.rc_maps.proofs.hash_table.HashTable.get_mut.Goals as goal
 

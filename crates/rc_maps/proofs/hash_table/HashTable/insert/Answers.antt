@@ -1,11 +1,6 @@
 use Rattle.std.proofs.Common.{Some, sym, ap, ◌∙◌}
-use Rattle.rc_edges.specs.EdgeMap.{written}
+use Rattle.rc_maps.proofs.Imports.{written, changed_one, by_many, by_two, others_of, on_err, first-kept, others-changed, pairs-changed, second-kept}
 use Rattle.rc_maps.specs.HashTable.{entries_of}
-use Rattle.rc_maps.specs.HashLaws.{changed_one}
-use Rattle.rc_maps.specs.Keyed.{by_many, by_two}
-use Rattle.rc_maps.specs.OtherKeys.{others_of}
-use Rattle.rc_maps.specs.PushLaws.{on_err}
-use Rattle.rc_maps.specs.SplitLaws.{first-kept, others-changed, pairs-changed, second-kept}
 use Rattle.rc_maps.proofs.hash_table.HashTable.insert.Goals as goal
 
 pub returns-in_ok-insert-in-One-clause-ok : goal.returns-in_ok-insert-in-One-clause-ok

@@ -1,8 +1,6 @@
 use Rattle.std.proofs.Common.{sym, ap, ◌∙◌}
-use Rattle.std.proofs.lemmas.Bool.{false≢true}
+use Rattle.rc_maps.proofs.Imports.{false≢true, both-none, none-both, none-whole, one}
 use Rattle.rc_maps.specs.HashTable.{entries_of}
-use Rattle.rc_maps.specs.SplitLaws.{both-none, none-both}
-use Rattle.rc_maps.specs.TableLaws.{none-whole, one}
 use Rattle.rc_maps.proofs.hash_table.HashTable.is_empty.Goals as goal
 
 pub returns-in-One : goal.returns-in-One

@@ -1,12 +1,6 @@
 use Rattle.std.proofs.Common.{◌≡◌, ◌++◌, map, sym, ap, subst, ◌∙◌}
-use Rattle.std.specs.List.{All}
-use Rattle.std.proofs.lemmas.List.{append-nil}
-use Rattle.rc_edges.specs.EdgeMap.{HasWidth}
-use Rattle.rc_maps.specs.Keyed.{AreApart, by_many, by_one, by_two, pair_of}
+use Rattle.rc_maps.proofs.Imports.{All, append-nil, HasWidth, AreApart, by_many, by_one, by_two, pair_of, apart_one, apart_both, one_widths}
 use Rattle.rc_maps.specs.HashTable.{has_one_column}
-use Rattle.rc_maps.specs.HashLaws.{apart_one}
-use Rattle.rc_maps.specs.SplitLaws.{apart_both}
-use Rattle.rc_maps.specs.TableLaws.{one_widths}
 use Rattle.rc_maps.proofs.hash_table.HashTable.keyed.Given as given
 use Rattle.rc_maps.proofs.hash_table.HashTable.keyed.Goals as goal
 

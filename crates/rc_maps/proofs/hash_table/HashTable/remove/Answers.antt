@@ -1,11 +1,7 @@
 use Rattle.std.proofs.Common.{None, sym, ap, ◌∙◌}
 use Rattle.std.specs.FinMap as fin
-use Rattle.rc_edges.specs.EdgeMap.{written}
-use Rattle.rc_edges.specs.RowsLaws.{written_again}
+use Rattle.rc_maps.proofs.Imports.{written, written_again, others-changed, others-found, pairs-changed, pairs-found, no_one, one, whole, changed_one, found_one}
 use Rattle.rc_maps.specs.HashTable.{entries_of}
-use Rattle.rc_maps.specs.SplitLaws.{others-changed, others-found, pairs-changed, pairs-found}
-use Rattle.rc_maps.specs.TableLaws.{no_one, one, whole}
-use Rattle.rc_maps.specs.HashLaws.{changed_one, found_one}
 use Rattle.rc_maps.proofs.hash_table.HashTable.remove.Goals as goal
 
 pub returns-in-Some-clause-value : goal.returns-in-Some-clause-value

@@ -1,13 +1,7 @@
 use Rattle.std.proofs.Common.{◌++◌, sym, ap, subst, ◌∙◌}
 use Rattle.std.specs.FinMap as fin
-use Rattle.std.specs.Option.{option_and_then}
-use Rattle.std.proofs.lemmas.Result.{on_err_weaker}
-use Rattle.rc_edges.specs.EdgeMap.{HasWidth, IsAddedNew, present}
-use Rattle.rc_edges.specs.OneMapLaws.{if_ok}
+use Rattle.rc_maps.proofs.Imports.{option_and_then, on_err_weaker, HasWidth, IsAddedNew, present, if_ok, by_many, by_two, added-pairs, first-kept, no_one}
 use Rattle.rc_maps.specs.HashTable.{entries_of, has_one_column}
-use Rattle.rc_maps.specs.Keyed.{by_many, by_two}
-use Rattle.rc_maps.specs.SplitLaws.{added-pairs, first-kept}
-use Rattle.rc_maps.specs.TableLaws.{no_one}
 use Rattle.rc_maps.proofs.hash_table.HashTableEntryEntryTable.add_new.Goals as goal
 
 pub unreachable-requires : goal.unreachable-requires

@@ -1,15 +1,7 @@
 use Rattle.std.proofs.Common.{◌≡◌, ◌+◌, ◌++◌, cond, rules, sym, ap, ◌∙◌}
 use Rattle.std.specs.FinMap as fin
-use Rattle.std.specs.List.{count_by}
-use Rattle.std.specs.Map.{values_of}
-use Rattle.std.proofs.lemmas.List.Sums.{sum_by-append}
-use Rattle.rc_edges.specs.EdgeMap.{current}
-use Rattle.rc_maps.specs.Keyed.{by_many, by_one, by_two, has_row}
+use Rattle.rc_maps.proofs.Imports.{count_by, values_of, sum_by-append, current, by_many, by_one, by_two, has_row, one, values-by_values, len-walk, apart_one, apart_both, values-both}
 use Rattle.rc_maps.specs.HashTable.{entries_of}
-use Rattle.rc_maps.specs.TableLaws.{one, values-by_values}
-use Rattle.rc_maps.specs.WalkLaws.{len-walk}
-use Rattle.rc_maps.specs.HashLaws.{apart_one}
-use Rattle.rc_maps.specs.SplitLaws.{apart_both, values-both}
 use Rattle.rc_maps.proofs.hash_table.HashTableEntryEntryTable.count.Goals as goal
 
 pub returns-in-One : goal.returns-in-One

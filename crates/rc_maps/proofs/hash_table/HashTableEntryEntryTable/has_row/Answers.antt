@@ -1,18 +1,8 @@
 use Rattle.std.proofs.Common.{◌≡◌, ◌<◌, ◌++◌, Bool, rules, tests, sym, ap, subst, ◌∙◌}
 use Rattle.std.specs.Prelude.{IsTrue, ◌↔◌, ◌||◌}
 use Rattle.std.specs.FinMap as fin
-use Rattle.std.specs.List.{list_any}
-use Rattle.std.specs.Map.{values_of}
-use Rattle.std.proofs.lemmas.Iterator.Consumers.{YieldsList-from_rest}
-use Rattle.std.proofs.lemmas.Iterator.Search.{any_from_yields_List}
-use Rattle.std.proofs.lemmas.List.Folds.{list_any-append}
-use Rattle.rc_edges.specs.EdgeMap.{current}
-use Rattle.rc_maps.specs.Keyed.{by_many, by_one, by_two, has_row}
+use Rattle.rc_maps.proofs.Imports.{list_any, values_of, YieldsList-from_rest, any_from_yields_List, list_any-append, current, by_many, by_one, by_two, has_row, one, values-by_values, has_row-walk, apart_one, apart_both, values-both}
 use Rattle.rc_maps.specs.HashTable.{entries_of}
-use Rattle.rc_maps.specs.TableLaws.{one, values-by_values}
-use Rattle.rc_maps.specs.WalkLaws.{has_row-walk}
-use Rattle.rc_maps.specs.HashLaws.{apart_one}
-use Rattle.rc_maps.specs.SplitLaws.{apart_both, values-both}
 use Rattle.rc_maps.proofs.hash_table.HashTableEntryEntryTable.has_row.Goals as goal
 use Rattle.rc_maps.proofs.hash_table.HashTableEntryEntryTable.has_row.Goals.{After-values-in_others}
 

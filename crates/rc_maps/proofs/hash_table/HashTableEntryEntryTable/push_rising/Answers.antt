@@ -1,11 +1,5 @@
 use Rattle.std.proofs.Common.{◌≡◌, ◌++◌, OnOk, List, map, rules, sym, ap, subst, ◌∙◌}
-use Rattle.std.proofs.lemmas.List.Sorted.{answers_always, ranks_by}
-use Rattle.rc_edges.specs.EdgeMap.{Counted, listed}
-use Rattle.rc_edges.specs.ListMapLaws.{listed-rows}
-use Rattle.rc_edges.specs.RowsLaws.{total}
-use Rattle.rc_maps.specs.declared.keyed.Keyed.{Keyed}
-use Rattle.rc_maps.specs.Keyed.{pair_of, values_of_walk}
-use Rattle.rc_maps.specs.WalkLaws.{IsSorted, IsSorted-by, is_before}
+use Rattle.rc_maps.proofs.Imports.{answers_always, ranks_by, Counted, listed, listed-rows, total, Keyed, pair_of, values_of_walk, IsSorted, IsSorted-by, is_before}
 use Rattle.rc_maps.proofs.hash_table.HashTableEntryEntryTable.push_rising.Goals as goal
 
 pub returns-clause-ok : goal.returns-clause-ok

@@ -1,12 +1,7 @@
 use Rattle.std.proofs.Common.{◌≡◌, ◌<◌, ◌^◌, IfOk, refl, sym, ap, subst, ◌∙◌}
 use Rattle.std.specs.FinMap as fin
-use Rattle.std.specs.Option.{option_and_then}
-use Rattle.std.proofs.lemmas.Result.{on_err_weaker, on_ok_weaker}
-use Rattle.rc_edges.specs.EdgeMap.{HasExtra, count_of, once_more, present}
+use Rattle.rc_maps.proofs.Imports.{option_and_then, on_err_weaker, on_ok_weaker, HasExtra, count_of, once_more, present, by_many, by_two, pairs_of, first-kept, pairs-found, raised-pairs}
 use Rattle.rc_maps.specs.HashTable.{entries_of}
-use Rattle.rc_maps.specs.Keyed.{by_many, by_two}
-use Rattle.rc_maps.specs.PairKeys.{pairs_of}
-use Rattle.rc_maps.specs.SplitLaws.{first-kept, pairs-found, raised-pairs}
 use Rattle.rc_maps.proofs.hash_table.HashTableEntryEntryTable.raise.Goals as goal
 use Rattle.rc_maps.proofs.hash_table.HashTableEntryEntryTable.raise.Goals.{In-Some-both}
 

@@ -1,11 +1,5 @@
 use Rattle.std.proofs.Common.{◌≡◌, ◌∷◌, [], ◌++◌, length, take, sym, ap, subst, ◌∙◌}
-use Rattle.rc_edges.specs.Values.{Values}
-use Rattle.rc_edges.specs.EdgeMap.{Counted, listed}
-use Rattle.rc_edges.specs.ListMap.{Items, values_in}
-use Rattle.rc_maps.specs.Keyed.{by_many, by_one}
-use Rattle.rc_maps.specs.OrderedTable.{entries_of}
-use Rattle.rc_maps.specs.OrderedLaws.{rising_many, rising_one}
-use Rattle.rc_maps.specs.PushLaws.{IsPushed, IsPushed-all, IsPushed-kept, IsPushed-next, on_err}
+use Rattle.rc_maps.proofs.Imports.{Values, Counted, listed, Items, values_in, by_many, by_one, entries_of, rising_many, rising_one, IsPushed, IsPushed-all, IsPushed-kept, IsPushed-next, on_err}
 use Rattle.rc_maps.proofs.ordered_table.OrderedTable+Entry.push_rows.Goals as goal
 
 pub loop-key-preserved : goal.loop-key-preserved

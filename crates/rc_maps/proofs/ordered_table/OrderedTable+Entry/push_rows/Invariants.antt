@@ -1,5 +1,4 @@
-use Rattle.rc_maps.specs.Keyed.{by_many, by_one}
-use Rattle.rc_maps.specs.PushLaws.{IsPushed}
+use Rattle.rc_maps.proofs.Imports.{by_many, by_one, IsPushed}
 use Rattle.rc_maps.proofs.ordered_table.OrderedTable+Entry.push_rows.Given as goal
 
 abbrev pub invariant-loop-key : goal.invariant-loop-key

@@ -1,7 +1,6 @@
 use Rattle.std.proofs.Common.{sym, ap, ◌∙◌}
 use Rattle.std.specs.FinMap as fin
-use Rattle.rc_maps.specs.OrderedTable.{entries_of}
-use Rattle.rc_maps.specs.TableLaws.{no_one}
+use Rattle.rc_maps.proofs.Imports.{entries_of, no_one}
 use Rattle.rc_maps.specs.OrderedLaws.{found_many, found_one}
 use Rattle.rc_maps.proofs.ordered_table.OrderedTable.get.Goals as goal
 

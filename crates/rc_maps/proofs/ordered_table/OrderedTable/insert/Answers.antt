@@ -1,7 +1,6 @@
 use Rattle.std.proofs.Common.{Some, sym, ap, ◌∙◌}
-use Rattle.rc_edges.specs.EdgeMap.{written}
-use Rattle.rc_maps.specs.OrderedTable.{entries_of}
-use Rattle.rc_maps.specs.OrderedLaws.{changed_many, changed_one}
+use Rattle.rc_maps.proofs.Imports.{written, entries_of, changed_many}
+use Rattle.rc_maps.specs.OrderedLaws.{changed_one}
 use Rattle.rc_maps.proofs.ordered_table.OrderedTable.insert.Goals as goal
 
 pub returns-in_ok-insert-in-One-clause-ok : goal.returns-in_ok-insert-in-One-clause-ok

@@ -1,6 +1,5 @@
 use Rattle.std.proofs.Common.{sym, ap, ◌∙◌}
-use Rattle.rc_maps.specs.OrderedTable.{entries_of}
-use Rattle.rc_maps.specs.TableLaws.{many, none-whole, one}
+use Rattle.rc_maps.proofs.Imports.{entries_of, many, none-whole, one}
 use Rattle.rc_maps.proofs.ordered_table.OrderedTable.is_empty.Goals as goal
 
 pub returns-in-One : goal.returns-in-One

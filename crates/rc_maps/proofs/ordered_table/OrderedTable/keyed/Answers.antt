@@ -1,11 +1,6 @@
 use Rattle.std.proofs.Common.{◌≡◌, ◌++◌, map, sym, ap, subst, ◌∙◌}
-use Rattle.std.specs.List.{All}
-use Rattle.std.proofs.lemmas.List.{append-nil}
-use Rattle.rc_edges.specs.EdgeMap.{HasWidth}
-use Rattle.rc_maps.specs.Keyed.{IsKeyed, by_many, by_one, pair_of}
-use Rattle.rc_maps.specs.OrderedTable.{has_one_column}
-use Rattle.rc_maps.specs.OrderedLaws.{rising_many, rising_one}
-use Rattle.rc_maps.specs.TableLaws.{one_widths}
+use Rattle.rc_maps.proofs.Imports.{All, append-nil, HasWidth, by_many, by_one, pair_of, has_one_column, rising_many, rising_one, one_widths}
+use Rattle.rc_maps.specs.Keyed.{IsKeyed}
 use Rattle.rc_maps.proofs.ordered_table.OrderedTable.keyed.Given as given
 use Rattle.rc_maps.proofs.ordered_table.OrderedTable.keyed.Goals as goal
 

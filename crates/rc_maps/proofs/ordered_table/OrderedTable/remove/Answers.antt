@@ -1,10 +1,7 @@
 use Rattle.std.proofs.Common.{None, sym, ap, ◌∙◌}
 use Rattle.std.specs.FinMap as fin
-use Rattle.rc_edges.specs.EdgeMap.{written}
-use Rattle.rc_edges.specs.RowsLaws.{written_again}
-use Rattle.rc_maps.specs.OrderedTable.{entries_of}
-use Rattle.rc_maps.specs.TableLaws.{no_one, one, whole}
-use Rattle.rc_maps.specs.OrderedLaws.{changed_many, changed_one, found_many, found_one}
+use Rattle.rc_maps.proofs.Imports.{written, written_again, entries_of, no_one, one, whole, changed_many}
+use Rattle.rc_maps.specs.OrderedLaws.{changed_one, found_many, found_one}
 use Rattle.rc_maps.proofs.ordered_table.OrderedTable.remove.Goals as goal
 
 pub returns-in-Some-clause-value : goal.returns-in-Some-clause-value

@@ -1,9 +1,6 @@
 use Rattle.std.proofs.Common.{ap, subst, ◌∙◌}
 use Rattle.std.specs.FinMap as fin
-use Rattle.std.specs.Option.{option_and_then}
-use Rattle.rc_edges.specs.EdgeMap.{HasWidth, present}
-use Rattle.rc_maps.specs.OrderedTable.{entries_of, has_one_column}
-use Rattle.rc_maps.specs.TableLaws.{no_one}
+use Rattle.rc_maps.proofs.Imports.{option_and_then, HasWidth, present, entries_of, has_one_column, no_one}
 use Rattle.rc_maps.proofs.ordered_table.OrderedTableEntryEntryTable.add_new.Goals as goal
 
 pub unreachable-requires : goal.unreachable-requires

@@ -1,7 +1,4 @@
-use Rattle.std.proofs.Common.{map}
-use Rattle.std.proofs.lemmas.Result.{IfOk-weaker}
-use Rattle.rc_maps.specs.Keyed.{pair_of}
-use Rattle.rc_maps.specs.WalkLaws.{apart_rising}
+use Rattle.rc_maps.proofs.Imports.{map, IfOk-weaker, pair_of, apart_rising}
 use Rattle.rc_maps.proofs.ordered_table.OrderedTableEntryEntryTable.all.Goals as goal
 
 pub returns-clause-apart : goal.returns-clause-apart

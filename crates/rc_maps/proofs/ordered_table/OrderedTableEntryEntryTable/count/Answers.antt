@@ -1,13 +1,7 @@
 use Rattle.std.proofs.Common.{◌≡◌, rules, sym, ap, ◌∙◌}
 use Rattle.std.specs.FinMap as fin
-use Rattle.std.specs.List.{count_by}
-use Rattle.std.specs.Map.{values_of}
-use Rattle.rc_edges.specs.EdgeMap.{current}
-use Rattle.rc_maps.specs.Keyed.{by_many, by_one, has_row}
-use Rattle.rc_maps.specs.OrderedTable.{entries_of}
-use Rattle.rc_maps.specs.TableLaws.{many, one, values-by_values}
-use Rattle.rc_maps.specs.WalkLaws.{len-walk}
-use Rattle.rc_maps.specs.OrderedLaws.{apart_many, apart_one}
+use Rattle.rc_maps.proofs.Imports.{count_by, values_of, current, by_many, by_one, has_row, entries_of, many, one, values-by_values, len-walk, apart_many}
+use Rattle.rc_maps.specs.OrderedLaws.{apart_one}
 use Rattle.rc_maps.proofs.ordered_table.OrderedTableEntryEntryTable.count.Goals as goal
 
 pub returns-in-One : goal.returns-in-One

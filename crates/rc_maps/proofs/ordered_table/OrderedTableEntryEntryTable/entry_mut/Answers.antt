@@ -1,5 +1,4 @@
-use Rattle.std.proofs.Common.{refl}
-use Rattle.std.proofs.lemmas.Option.{IfSome_then}
+use Rattle.rc_maps.proofs.Imports.{refl, IfSome_then}
 use Rattle.rc_maps.proofs.ordered_table.OrderedTableEntryEntryTable.entry_mut.Goals as goal
 
 pub returns : goal.returns

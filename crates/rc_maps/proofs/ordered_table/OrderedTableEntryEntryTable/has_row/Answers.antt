@@ -1,16 +1,8 @@
 use Rattle.std.proofs.Common.{◌≡◌, ◌<◌, rules, tests, sym, ap, subst, ◌∙◌}
 use Rattle.std.specs.Prelude.{IsTrue, ◌↔◌}
 use Rattle.std.specs.FinMap as fin
-use Rattle.std.specs.List.{list_any}
-use Rattle.std.specs.Map.{values_of}
-use Rattle.std.proofs.lemmas.Iterator.Consumers.{YieldsList-from_rest}
-use Rattle.std.proofs.lemmas.Iterator.Search.{any_from_yields_List}
-use Rattle.rc_edges.specs.EdgeMap.{current}
-use Rattle.rc_maps.specs.Keyed.{by_many, by_one, has_row}
-use Rattle.rc_maps.specs.OrderedTable.{entries_of}
-use Rattle.rc_maps.specs.TableLaws.{many, one, values-by_values}
-use Rattle.rc_maps.specs.WalkLaws.{has_row-walk}
-use Rattle.rc_maps.specs.OrderedLaws.{apart_many, apart_one}
+use Rattle.rc_maps.proofs.Imports.{list_any, values_of, YieldsList-from_rest, any_from_yields_List, current, by_many, by_one, has_row, entries_of, many, one, values-by_values, has_row-walk, apart_many}
+use Rattle.rc_maps.specs.OrderedLaws.{apart_one}
 use Rattle.rc_maps.proofs.ordered_table.OrderedTableEntryEntryTable.has_row.Goals as goal
 
 pub returns-in-One : goal.returns-in-One

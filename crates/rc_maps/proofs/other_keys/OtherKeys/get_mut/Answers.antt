@@ -1,6 +1,5 @@
-use Rattle.std.proofs.Common.{refl, sym}
-use Rattle.rc_maps.specs.TableLaws.{on_found}
-use Rattle.rc_maps.specs.HashLaws.{changed_many, found_many}
+use Rattle.rc_maps.proofs.Imports.{refl, sym, on_found, found_many}
+use Rattle.rc_maps.specs.HashLaws.{changed_many}
 use Rattle.rc_maps.proofs.other_keys.OtherKeys.get_mut.Goals as goal
 
 pub returns : goal.returns

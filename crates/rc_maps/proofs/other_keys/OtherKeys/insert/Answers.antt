@@ -1,8 +1,5 @@
-use Rattle.std.proofs.Common.{Some, not, ap}
+use Rattle.rc_maps.proofs.Imports.{Some, not, ap, has_other, other_from, passed-put, many}
 use Rattle.rc_maps.specs.HashLaws.{changed_many}
-use Rattle.rc_maps.specs.KeyLengths.{has_other}
-use Rattle.rc_maps.specs.SplitLaws.{other_from, passed-put}
-use Rattle.rc_maps.specs.TableLaws.{many}
 use Rattle.rc_maps.proofs.other_keys.OtherKeys.insert.Goals as goal
 
 pub invariant_of-self : goal.invariant_of-self

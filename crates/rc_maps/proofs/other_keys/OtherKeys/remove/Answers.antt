@@ -1,8 +1,5 @@
-use Rattle.std.proofs.Common.{None, refl, sym}
-use Rattle.rc_maps.specs.HashLaws.{changed_many, found_many}
-use Rattle.rc_maps.specs.KeyLengths.{has_other}
-use Rattle.rc_maps.specs.SplitLaws.{passed-changed}
-use Rattle.rc_maps.specs.TableLaws.{many}
+use Rattle.rc_maps.proofs.Imports.{None, refl, sym, found_many, has_other, passed-changed, many}
+use Rattle.rc_maps.specs.HashLaws.{changed_many}
 use Rattle.rc_maps.proofs.other_keys.OtherKeys.remove.Goals as goal
 
 pub invariant_of-self : goal.invariant_of-self

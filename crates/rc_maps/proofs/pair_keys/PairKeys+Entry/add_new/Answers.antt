@@ -1,12 +1,6 @@
 use Rattle.std.proofs.Common.{rules, ◌≡◌, Some, None, sym, ap, ◌∙◌}
 use Rattle.std.specs.FinMap as fin
-use Rattle.std.specs.HashMap.Entry.{entry_value}
-use Rattle.std.proofs.lemmas.Result.{on_err_weaker}
-use Rattle.rc_edges.specs.OneMapLaws.{if_ok}
-use Rattle.rc_edges.specs.RowsLaws.{started_at, started_new}
-use Rattle.rc_maps.specs.PairKeys.{pairs_of}
-use Rattle.rc_maps.specs.TableLaws.{stays}
-use Rattle.rc_maps.specs.SplitLaws.{changed_two, found_two, two-changed}
+use Rattle.rc_maps.proofs.Imports.{entry_value, on_err_weaker, if_ok, started_at, started_new, pairs_of, stays, changed_two, found_two, two-changed}
 use Rattle.rc_maps.proofs.pair_keys.PairKeys+Entry.add_new.Goals as goal
 use Rattle.rc_maps.proofs.pair_keys.PairKeys+Entry.add_new.Goals.{After-into_mut, In-Vacant}
 

@@ -1,6 +1,4 @@
-use Rattle.std.proofs.Common.{Some, refl, sym}
-use Rattle.rc_maps.specs.TableLaws.{on_found}
-use Rattle.rc_maps.specs.SplitLaws.{changed_two, found_two}
+use Rattle.rc_maps.proofs.Imports.{Some, refl, sym, on_found, changed_two, found_two}
 use Rattle.rc_maps.proofs.pair_keys.PairKeys.get_mut.Goals as goal
 
 pub returns : goal.returns

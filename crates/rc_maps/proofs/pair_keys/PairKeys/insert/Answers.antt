@@ -1,6 +1,4 @@
-use Rattle.std.proofs.Common.{Some}
-use Rattle.rc_maps.specs.KeyLengths.{has_two}
-use Rattle.rc_maps.specs.SplitLaws.{changed_two, pair, two_from, passed-put}
+use Rattle.rc_maps.proofs.Imports.{Some, has_two, changed_two, pair, two_from, passed-put}
 use Rattle.rc_maps.proofs.pair_keys.PairKeys.insert.Goals as goal
 
 pub invariant_of-self : goal.invariant_of-self

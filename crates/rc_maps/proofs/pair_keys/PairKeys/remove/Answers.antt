@@ -1,6 +1,4 @@
-use Rattle.std.proofs.Common.{None, refl, sym}
-use Rattle.rc_maps.specs.KeyLengths.{has_two}
-use Rattle.rc_maps.specs.SplitLaws.{changed_two, found_two, pair, passed-changed}
+use Rattle.rc_maps.proofs.Imports.{None, refl, sym, has_two, changed_two, found_two, pair, passed-changed}
 use Rattle.rc_maps.proofs.pair_keys.PairKeys.remove.Goals as goal
 
 pub invariant_of-self : goal.invariant_of-self

@@ -1,7 +1,6 @@
 use Rattle.std.proofs.Common.{ap, ◌∙◌}
 use Rattle.std.specs.FinMap as fin
-use Rattle.rc_maps.specs.TableEdge.{TableRows}
-use Rattle.rc_maps.specs.TableLaws.{on_some}
+use Rattle.rc_maps.proofs.Imports.{TableRows, on_some}
 use Rattle.rc_maps.proofs.table_edge.TableEdgeEdgeMap.put_back.Goals as goal
 
 pub returns-clause-now : goal.returns-clause-now

@@ -1,9 +1,6 @@
 use Rattle.std.proofs.Common.{◌≡◌, Some, sym, ap, ◌∙◌}
 use Rattle.std.specs.FinMap as fin
-use Rattle.rc_edges.specs.EdgeMap.{Rows, one_less, written}
-use Rattle.rc_edges.specs.Values.{Values}
-use Rattle.rc_maps.specs.TableEdge.{TableRows}
-use Rattle.rc_maps.specs.TableLaws.{on_some}
+use Rattle.rc_maps.proofs.Imports.{Rows, one_less, written, Values, TableRows, on_some}
 use Rattle.rc_maps.proofs.table_edge.TableEdgeEdgeMap.sub.Goals as goal
 
 pub returns-clause-now : goal.returns-clause-now

@@ -1,12 +1,6 @@
 use Rattle.std.proofs.Common.{◌≡◌, Some, sym, ap, ◌∙◌}
 use Rattle.std.specs.FinMap as fin
-use Rattle.std.specs.Option.{option_and_then}
-use Rattle.rc_edges.specs.EdgeMap.{Counted, Rows, present, written}
-use Rattle.rc_edges.specs.ListMapLaws.{swept_filled, swept_none}
-use Rattle.rc_edges.specs.RowsLaws.{tombstone_absent, written_again}
-use Rattle.rc_edges.specs.Values.{Values}
-use Rattle.rc_maps.specs.TableEdge.{TableRows}
-use Rattle.rc_maps.specs.TableLaws.{on_some}
+use Rattle.rc_maps.proofs.Imports.{option_and_then, Counted, Rows, present, written, swept_filled, swept_none, tombstone_absent, written_again, Values, TableRows, on_some}
 use Rattle.rc_maps.proofs.table_edge.TableEdgeEdgeMap.sweep.Goals as goal
 
 pub returns-in_default-clause-now : goal.returns-in_default-clause-now

@@ -1,9 +1,5 @@
 use Rattle.std.proofs.Common.{◌<◌, [], subst, rules, arith}
-use Rattle.rc_tuple.specs.RisingSet.{In}
-use Rattle.rc_spec.specs.Stripes.{stripe_total}
-use Rattle.rc_spec.specs.declared.lock.Mode.TheVariants.{Exclusive}
-use Rattle.rc_fragment.specs.Holder.{Holding}
-use Rattle.rc_instance.specs.Instance.{holding}
+use Rattle.rc_middle.proofs.Imports.{In, stripe_total, Exclusive, Holding, holding}
 use Rattle.rc_middle.proofs.OpenLemmas.{above_taken, exclusive_taken}
 use Rattle.rc_middle.proofs.RelationLemmas.{holds_after_take, holds_at_first}
 use Rattle.rc_middle.proofs.sides.Sides.hold_all.Goals as goal

@@ -1,7 +1,4 @@
-use Rattle.rc_fragment.specs.Holder.{IsAbove, held_of}
-use Rattle.rc_instance.specs.Instance.{holding}
-use Rattle.rc_middle.specs.Open.{AreExclusive}
-use Rattle.rc_middle.specs.Relation.{HoldsRelation}
+use Rattle.rc_middle.proofs.Imports.{IsAbove, held_of, holding, AreExclusive, HoldsRelation}
 use Rattle.rc_middle.proofs.sides.Sides.hold_all.Given as goal
 
 abbrev pub invariant-loop-stripe : goal.invariant-loop-stripe

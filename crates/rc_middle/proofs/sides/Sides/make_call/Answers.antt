@@ -1,13 +1,5 @@
 use Rattle.std.proofs.Common.{◌≡◌, ◌∙◌, List, ap, length, subst}
-use Rattle.rc_tuple.specs.Tuple.{Pairs}
-use Rattle.rc_spec.specs.Plain.{Outcome, plain}
-use Rattle.rc_spec.specs.Stripes.{stripe_total}
-use Rattle.rc_spec.specs.declared.call.Call.{Call}
-use Rattle.rc_spec.specs.declared.spec.Spec.{Spec}
-use Rattle.rc_instance.specs.Instance.{Stripe, holding}
-use Rattle.rc_instance.specs.InstanceLaws.{offered-length}
-use Rattle.rc_machine.specs.ReplyLaws.{replied_of}
-use Rattle.rc_middle.specs.Relation.{HoldsRelation}
+use Rattle.rc_middle.proofs.Imports.{Pairs, Outcome, plain, stripe_total, Call, Spec, Stripe, holding, offered-length, replied_of, HoldsRelation}
 use Rattle.rc_middle.proofs.RelationLemmas.{holds_after_call, known_held}
 use Rattle.rc_middle.proofs.sides.Sides.make_call.Goals as goal
 

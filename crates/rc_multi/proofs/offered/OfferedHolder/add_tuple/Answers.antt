@@ -1,13 +1,5 @@
-use Rattle.std.proofs.lemmas.Result.{on_err_weaker, on_ok_weaker}
+use Rattle.rc_multi.proofs.Imports.{on_err_weaker, on_ok_weaker, Holding, held_of, IsChangedAt, raised_all, class_rows, changes_of_class, offering, exclusive_there, raise_there, room_there, told_change, told_partly, changed_lend, changed_offer, either_changed, is_held}
 use Rattle.std.proofs.Common.{ap, ◌∙◌}
-use Rattle.rc_fragment.specs.Holder.{Holding, held_of}
-use Rattle.rc_fragment.specs.HoldingLaws.{IsChangedAt}
-use Rattle.rc_fragment.specs.Implied.{raised_all}
-use Rattle.rc_fragment.specs.ImpliedTables.{class_rows}
-use Rattle.rc_fragment.specs.Tuples.{changes_of_class}
-use Rattle.rc_multi.specs.Offering.{offering}
-use Rattle.rc_multi.specs.OfferingLaws.{exclusive_there, raise_there, room_there, told_change, told_partly}
-use Rattle.rc_multi.specs.OfferedLaws.{changed_lend, changed_offer, either_changed, is_held}
 use Rattle.rc_multi.proofs.offered.OfferedHolder.add_tuple.Goals as goal
 
 pub add_tuple-requires-clause-exclusive : goal.add_tuple-requires-clause-exclusive

@@ -1,5 +1,4 @@
-use Rattle.rc_fragment.specs.Holder.{held_of}
-use Rattle.rc_multi.specs.OfferingLaws.{held_there, lent_there}
+use Rattle.rc_multi.proofs.Imports.{held_of, held_there, lent_there}
 use Rattle.rc_multi.proofs.offered.OfferedHolder.fragment.Goals as goal
 
 pub fragment-requires : goal.fragment-requires

@@ -1,9 +1,5 @@
-use Rattle.std.proofs.lemmas.Result.{on_ok_weaker}
+use Rattle.rc_multi.proofs.Imports.{on_ok_weaker, Holding, held_of, with_room_at, offering, exclusive_there, room_offered, told_room, may_offer, may_lend}
 use Rattle.std.proofs.Common.{ap, refl, ◌∙◌}
-use Rattle.rc_fragment.specs.Holder.{Holding, held_of, with_room_at}
-use Rattle.rc_multi.specs.Offering.{offering}
-use Rattle.rc_multi.specs.OfferingLaws.{exclusive_there, room_offered, told_room}
-use Rattle.rc_multi.specs.OfferedLaws.{may_offer, may_lend}
 use Rattle.rc_multi.proofs.offered.OfferedHolder.own.Goals as goal
 
 pub own-requires : goal.own-requires

@@ -1,12 +1,5 @@
 use Rattle.std.proofs.Common.{ap, ◌∙◌}
-use Rattle.rc_fragment.specs.Holder.{Holding, held_of}
-use Rattle.rc_fragment.specs.HoldingLaws.{IsChangedAt}
-use Rattle.rc_fragment.specs.Implied.{lowered_all}
-use Rattle.rc_fragment.specs.ImpliedTables.{class_rows}
-use Rattle.rc_fragment.specs.Tuples.{changes_of_class}
-use Rattle.rc_multi.specs.Offering.{offering}
-use Rattle.rc_multi.specs.OfferingLaws.{exclusive_there, lower_there, room_there, told_change}
-use Rattle.rc_multi.specs.OfferedLaws.{changed_lend, changed_offer, is_held}
+use Rattle.rc_multi.proofs.Imports.{Holding, held_of, IsChangedAt, lowered_all, class_rows, changes_of_class, offering, exclusive_there, lower_there, room_there, told_change, changed_lend, changed_offer, is_held}
 use Rattle.rc_multi.proofs.offered.OfferedHolder.sub_tuple.Goals as goal
 
 pub sub_tuple-requires-clause-exclusive : goal.sub_tuple-requires-clause-exclusive

@@ -1,9 +1,4 @@
-use Rattle.std.specs.Prelude.{List, is_ok}
-use Rattle.std.proofs.Common.{sym, subst}
-use Rattle.rc_spec.specs.Locks.{StripeLock}
-use Rattle.rc_fragment.specs.Holder.{HasTaken, held_of}
-use Rattle.rc_multi.specs.Offering.{offering}
-use Rattle.rc_multi.specs.OfferedLaws.{may_take, pushed}
+use Rattle.rc_multi.proofs.Imports.{List, is_ok, sym, subst, StripeLock, HasTaken, held_of, offering, may_take, pushed}
 use Rattle.rc_multi.proofs.offered.OfferedHolder.take.Goals as goal
 
 pub invariant_of-self : goal.invariant_of-self

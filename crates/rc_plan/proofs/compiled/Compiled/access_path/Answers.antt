@@ -1,7 +1,5 @@
 use Rattle.std.proofs.Common.{◌<◌, None, length, subst, sym}
-use Rattle.rc_spec.specs.Placement.{op_at}
-use Rattle.rc_plan.specs.Access.{HasNoPath, IsPathOf}
-use Rattle.rc_plan.specs.Compiled.{SpecWithPlans, plan_at}
+use Rattle.rc_plan.proofs.Imports.{op_at, HasNoPath, IsPathOf, SpecWithPlans, plan_at}
 use Rattle.rc_plan.proofs.ResolvedLemmas.{at_number}
 use Rattle.rc_plan.proofs.compiled.Compiled.access_path.Goals as goal
 

@@ -1,7 +1,5 @@
 use Rattle.std.proofs.Common.{◌<◌, get_or, length, subst, sym, arith}
-use Rattle.std.proofs.lemmas.Option.{slice_get-get_or}
-use Rattle.rc_plan.specs.Compiled.{SpecWithPlans}
-use Rattle.rc_plan.specs.Resolved.{IsResolvedEdge}
+use Rattle.rc_plan.proofs.Imports.{slice_get-get_or, SpecWithPlans, IsResolvedEdge}
 use Rattle.rc_plan.proofs.compiled.Compiled.edge.Goals as goal
 
 pub returns : goal.returns

@@ -1,10 +1,5 @@
 use Rattle.std.proofs.Common.{◌<◌, length, subst, sym, ap, ◌∙◌, arith}
-use Rattle.rc_tuple.specs.ColSet.{minus, union}
-use Rattle.rc_spec.specs.declared.items.Edge.{Edge}
-use Rattle.rc_spec.specs.Decomposition.{bound}
-use Rattle.rc_spec.specs.DecompositionLaws.{edge_among}
-use Rattle.rc_spec.specs.PlacementLaws.{class_of_known, placed_total}
-use Rattle.rc_spec.specs.Stripes.{band_start}
+use Rattle.rc_plan.proofs.Imports.{minus, union, Edge, bound, edge_among, class_of_known, placed_total, band_start}
 use Rattle.rc_plan.proofs.resolved.ResolvedEdge.of.Goals as goal
 
 pub bound-source-requires : goal.bound-source-requires

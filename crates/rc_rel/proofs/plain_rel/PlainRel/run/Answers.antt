@@ -1,15 +1,5 @@
 use Rattle.std.proofs.Common.{◌≡◌, List, sym, ap, subst, ◌∙◌}
-use Rattle.std.specs.Result.{OnErr}
-use Rattle.std.proofs.lemmas.Option.{get_or_from_slice_get}
-use Rattle.rc_tuple.specs.RisingSetLaws.{slice_get_in}
-use Rattle.rc_tuple.specs.Tuple.{Pairs, cols_of}
-use Rattle.rc_spec.specs.declared.items.Op.{Op}
-use Rattle.rc_spec.specs.Calls.{all_columns, GivesTuple}
-use Rattle.rc_spec.specs.InRange.{AreBelow}
-use Rattle.rc_spec.specs.Placement.{no_op}
-use Rattle.rc_spec.specs.Plain.{Outcome, plain, plain_by}
-use Rattle.rc_spec.specs.PlainLaws.{plain-known}
-use Rattle.rc_rel.specs.Over.{AreOver}
+use Rattle.rc_rel.proofs.Imports.{OnErr, get_or_from_slice_get, slice_get_in, Pairs, cols_of, Op, all_columns, GivesTuple, AreBelow, no_op, Outcome, plain, plain_by, plain-known, AreOver}
 use Rattle.rc_rel.proofs.RunLemmas.{holds_after, same_outcome, pattern_below, over_arguments, over_outcome}
 use Rattle.rc_rel.proofs.plain_rel.PlainRel.run.Goals as goal
 

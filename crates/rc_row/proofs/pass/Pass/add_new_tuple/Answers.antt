@@ -1,8 +1,5 @@
 use Rattle.std.proofs.Common.{List, refl, ap, subst, ◌∙◌}
-use Rattle.std.proofs.lemmas.Result.{on_err_weaker, on_ok_weaker}
-use Rattle.rc_fragment.specs.Tuples.{with_tuple}
-use Rattle.rc_row.specs.Passes.{ArePartlyAddedOn, CanAddNewTo, HasNoRowIn, HasRowIn, OfHeld, PassSeen}
-use Rattle.rc_row.specs.HeldRows.{HeldRows}
+use Rattle.rc_row.proofs.Imports.{on_err_weaker, on_ok_weaker, with_tuple, ArePartlyAddedOn, CanAddNewTo, HasNoRowIn, HasRowIn, OfHeld, PassSeen, HeldRows}
 use Rattle.rc_row.proofs.WholeLemmas.{fact_there, written_there, whole_partly}
 use Rattle.rc_row.proofs.pass.Pass.add_new_tuple.Goals as goal
 

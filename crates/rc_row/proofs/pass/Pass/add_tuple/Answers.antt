@@ -1,7 +1,4 @@
-use Rattle.std.proofs.Common.{refl, ap, subst}
-use Rattle.std.proofs.lemmas.Result.{on_err_weaker}
-use Rattle.rc_fragment.specs.Tuples.{with_tuple}
-use Rattle.rc_row.specs.Passes.{ArePartlyAddedOn, CanAddTo, PassSeen}
+use Rattle.rc_row.proofs.Imports.{refl, ap, subst, on_err_weaker, with_tuple, ArePartlyAddedOn, CanAddTo, PassSeen}
 use Rattle.rc_row.proofs.WholeLemmas.{fact_there, written_there, whole_partly}
 use Rattle.rc_row.proofs.pass.Pass.add_tuple.Goals as goal
 

@@ -1,6 +1,5 @@
 use Rattle.std.proofs.Common.{◌≡◌, subst, ap, ◌∙◌}
-use Rattle.rc_row.specs.HeldRows.{HeldRows}
-use Rattle.rc_row.specs.Passes.{OfHeld, PassSeen}
+use Rattle.rc_row.proofs.Imports.{HeldRows, OfHeld, PassSeen}
 use Rattle.rc_row.proofs.TurnLemmas.{read_here}
 use Rattle.rc_row.proofs.ChangeLemmas.{of_held_here}
 use Rattle.rc_row.proofs.WholeLemmas.{rising_there}

@@ -1,9 +1,5 @@
 use Rattle.std.proofs.Common.{◌≡◌, ◌-◌, List, length, Some, option_copied, refl, sym, ap, ◌∙◌, subst}
-use Rattle.std.specs.List.{slice_get}
-use Rattle.rc_tuple.specs.RisingSet.{In}
-use Rattle.rc_tuple.specs.RisingSetLaws.{slice_get_in}
-use Rattle.rc_row.specs.HeldRows.{HeldRows}
-use Rattle.rc_row.specs.Passes.{PassSeen}
+use Rattle.rc_row.proofs.Imports.{slice_get, In, slice_get_in, HeldRows, PassSeen}
 use Rattle.rc_row.proofs.pass.Pass.last.Goals as goal
 
 pub returns-clause-some : goal.returns-clause-some

@@ -1,6 +1,4 @@
-use Rattle.std.proofs.Common.{refl}
-use Rattle.rc_fragment.specs.FragmentRows.{with_promise}
-use Rattle.rc_row.specs.Passes.{held_with}
+use Rattle.rc_row.proofs.Imports.{refl, with_promise, held_with}
 use Rattle.rc_row.proofs.ChangeLemmas.{hands-held_with, taken-held_with}
 use Rattle.rc_row.proofs.WholeLemmas.{written_there, whole_if}
 use Rattle.rc_row.proofs.pass.Pass.own.Goals as goal

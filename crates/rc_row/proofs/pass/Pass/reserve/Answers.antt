@@ -1,8 +1,5 @@
 use Rattle.std.proofs.Common.{◌≡◌, Option, Some, sym, ap, ◌∙◌, subst}
-use Rattle.rc_journal.specs.PartEntries.{PartEntries}
-use Rattle.rc_row.specs.declared.pass.Pass.TheInside.{Inside}
-use Rattle.rc_row.specs.PassInside.{pass_seen}
-use Rattle.rc_row.specs.Passes.{HasReserved, IsMoreRoom, PassSeen}
+use Rattle.rc_row.proofs.Imports.{PartEntries, Inside, pass_seen, HasReserved, IsMoreRoom, PassSeen}
 use Rattle.rc_row.proofs.pass.Pass.reserve.Goals as goal
 use Rattle.rc_row.proofs.pass.Pass.reserve.Goals.{in-Some, in-None}
 

@@ -1,7 +1,4 @@
-use Rattle.std.proofs.Common.{refl}
-use Rattle.rc_fragment.specs.FragmentRows.{rolled_back}
-use Rattle.rc_row.specs.HeldRows.{HeldRows}
-use Rattle.rc_row.specs.Passes.{all_with}
+use Rattle.rc_row.proofs.Imports.{refl, rolled_back, HeldRows, all_with}
 use Rattle.rc_row.proofs.ChangeLemmas.{hands-with, taken-with}
 use Rattle.rc_row.proofs.WholeLemmas.{whole_with}
 use Rattle.rc_row.proofs.pass.Pass.revert.Goals as goal

@@ -1,6 +1,4 @@
-use Rattle.std.proofs.Common.{refl}
-use Rattle.rc_fragment.specs.FragmentRows.{rolled_back}
-use Rattle.rc_row.specs.Passes.{held_with}
+use Rattle.rc_row.proofs.Imports.{refl, rolled_back, held_with}
 use Rattle.rc_row.proofs.ChangeLemmas.{hands-held_with, taken-held_with}
 use Rattle.rc_row.proofs.WholeLemmas.{held_there, whole_with}
 use Rattle.rc_row.proofs.pass.Pass.revert_stripe.Goals as goal

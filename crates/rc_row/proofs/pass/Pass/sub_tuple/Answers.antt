@@ -1,6 +1,4 @@
-use Rattle.std.proofs.Common.{refl}
-use Rattle.rc_fragment.specs.Tuples.{without_tuple}
-use Rattle.rc_row.specs.Passes.{CanSubFrom, held_with}
+use Rattle.rc_row.proofs.Imports.{refl, without_tuple, CanSubFrom, held_with}
 use Rattle.rc_row.proofs.ChangeLemmas.{hands-held_with, taken-held_with}
 use Rattle.rc_row.proofs.WholeLemmas.{fact_there, written_there, whole_with}
 use Rattle.rc_row.proofs.pass.Pass.sub_tuple.Goals as goal

@@ -1,13 +1,5 @@
 use Rattle.std.proofs.Common.{◌≡◌, List, [], length, sym, ap, subst, ◌∙◌}
-use Rattle.std.specs.Prelude.{replicate}
-use Rattle.std.proofs.lemmas.List.{length-replicate}
-use Rattle.rc_fragment.specs.Keep.{KeptRows}
-use Rattle.rc_rel.specs.declared.entry.Entry.{Entry}
-use Rattle.rc_spec.specs.Stripes.{stripe_total}
-use Rattle.rc_spec.specs.declared.spec.Spec.{Spec}
-use Rattle.rc_row.specs.declared.close.EndedPass.{EndedPass}
-use Rattle.rc_row.specs.Ended.{IsLeftOf, no_entries, resumed_from}
-use Rattle.rc_row.specs.Law.{kept_of}
+use Rattle.rc_row.proofs.Imports.{replicate, length-replicate, KeptRows, Entry, stripe_total, Spec, EndedPass, IsLeftOf, no_entries, resumed_from, kept_of}
 use Rattle.rc_row.proofs.ResumingLemmas.{new_from, nothing_left}
 use Rattle.rc_row.proofs.row.Row.build.Goals as goal
 

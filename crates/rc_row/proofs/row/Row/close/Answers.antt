@@ -1,12 +1,5 @@
 use Rattle.std.proofs.Common.{arith, ◌≡◌, ◌≤◌, List, sym, ap, ◌∙◌, subst}
-use Rattle.std.specs.Slots.{slots_items}
-use Rattle.rc_rel.specs.declared.entry.Entry.{Entry}
-use Rattle.rc_rel.specs.History.{IsPrefix}
-use Rattle.rc_row.specs.declared.law.View.{View}
-use Rattle.rc_row.specs.Ended.{HasHistory}
-use Rattle.rc_row.specs.HistoryMade.{made_by}
-use Rattle.rc_row.specs.Law.{history_by}
-use Rattle.rc_row.specs.Passes.{RowSeen, spec_of}
+use Rattle.rc_row.proofs.Imports.{slots_items, Entry, IsPrefix, View, HasHistory, made_by, history_by, RowSeen, spec_of}
 use Rattle.rc_row.proofs.ClosingLemmas.{closed_slot, count_of, has_history, made_is_history}
 use Rattle.rc_row.proofs.row.Row.close.Goals as goal
 

@@ -1,8 +1,5 @@
 use Rattle.std.proofs.Common.{◌+◌, refl, sym, ap, ◌∙◌, subst}
-use Rattle.rc_rel.specs.History.{placed}
-use Rattle.rc_core.specs.Passes.{MayCommit}
-use Rattle.rc_row.specs.declared.pass.Pass.TheInside.{Inside}
-use Rattle.rc_row.specs.Passes.{IsPassOf, PassSeen, compiled_of, core_of, with_entry}
+use Rattle.rc_row.proofs.Imports.{placed, MayCommit, Inside, IsPassOf, PassSeen, compiled_of, core_of, with_entry}
 use Rattle.rc_row.proofs.SettleLemmas.{HasSettled, has_added, pass_of_commit, seen_committed, whole_committed}
 use Rattle.rc_row.proofs.row.Row.commit.Goals as goal
 

@@ -1,12 +1,5 @@
 use Rattle.std.proofs.Common.{◌≡◌, ◌+◌, length, Option, None, refl, sym, ap, ◌∙◌, subst}
-use Rattle.rc_journal.specs.PartEntries.{PartEntries}
-use Rattle.rc_rel.specs.declared.entry.Entry.{Entry}
-use Rattle.rc_rel.specs.History.{placed, with_replies}
-use Rattle.rc_row.specs.declared.pass.Pass.TheInside.{Inside}
-use Rattle.rc_row.specs.Law.{standing_of}
-use Rattle.rc_core.specs.Passes.{next_of}
-use Rattle.rc_row.specs.Passes.{IsPassOf, PassSeen, compiled_of, core_of, with_entry}
-use Rattle.rc_row.specs.Told.{HasCommitted}
+use Rattle.rc_row.proofs.Imports.{PartEntries, Entry, placed, with_replies, Inside, standing_of, next_of, IsPassOf, PassSeen, compiled_of, core_of, with_entry, HasCommitted}
 use Rattle.rc_row.proofs.SettleLemmas.{HasSettled, has_added, pass_of_commit, seen_committed, whole_committed}
 use Rattle.rc_row.proofs.row.Row.commit_calls.Goals as goal
 

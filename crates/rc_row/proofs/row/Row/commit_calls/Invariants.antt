@@ -1,7 +1,4 @@
-use Rattle.std.proofs.Common.{Some}
-use Rattle.rc_row.specs.Law.{standing_of}
-use Rattle.rc_core.specs.Passes.{next_of}
-use Rattle.rc_rel.specs.History.{with_replies}
+use Rattle.rc_row.proofs.Imports.{Some, standing_of, next_of, with_replies}
 use Rattle.rc_row.proofs.row.Row.commit_calls.Given as goal
 
 abbrev pub ghosts-commit_next : goal.ghosts-commit_next

@@ -1,14 +1,5 @@
 use Rattle.std.proofs.Common.{arith, ◌≡◌, ◌≤◌, ℕ, suc, ◌+◌, ◌∷◌, ◌++◌, [], List, length, sym, ap, ◌∙◌, subst, length-append, drop}
-use Rattle.std.specs.Global.{Vec}
-use Rattle.std.specs.Prelude.{vec_capacity}
-use Rattle.std.specs.List.{slice_get}
-use Rattle.std.specs.Vec.Iter.{into_iter_items}
-use Rattle.rc_row.specs.Ended.{resumed_from}
-use Rattle.rc_row.specs.declared.close.EndedPass.{EndedPass}
-use Rattle.rc_row.specs.declared.held.HeldFragment.{HeldFragment}
-use Rattle.rc_row.specs.Law.{history_by, passes_view, starts}
-use Rattle.rc_row.specs.Passes.{PassSeen, resumed_pass, stripes_of}
-use Rattle.rc_row.specs.Rooms.{AreRooms}
+use Rattle.rc_row.proofs.Imports.{Vec, vec_capacity, slice_get, into_iter_items, resumed_from, EndedPass, HeldFragment, history_by, passes_view, starts, PassSeen, resumed_pass, stripes_of, AreRooms}
 use Rattle.rc_row.proofs.ListLemmas.{all_before, all_last}
 use Rattle.rc_row.proofs.ResumingLemmas.{dealt_more, left_behind, next_at}
 use Rattle.rc_row.proofs.row.Row.deal_all.Goals as goal

@@ -1,9 +1,5 @@
 use Rattle.std.proofs.Common.{◌≡◌, ◌+◌, ◌≤◌, ◌++◌, drop, length}
-use Rattle.std.specs.Vec.Iter.{into_iter_items, into_iter_len}
-use Rattle.rc_row.specs.Ended.{resumed_from}
-use Rattle.rc_row.specs.Law.{history_by, passes_view, starts}
-use Rattle.rc_row.specs.Passes.{stripes_of}
-use Rattle.rc_row.specs.Rooms.{AreRooms}
+use Rattle.rc_row.proofs.Imports.{into_iter_items, into_iter_len, resumed_from, history_by, passes_view, starts, stripes_of, AreRooms}
 use Rattle.rc_row.proofs.row.Row.deal_all.Given as goal
 
 -- those that were dealt, and those that are left

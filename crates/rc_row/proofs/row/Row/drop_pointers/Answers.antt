@@ -1,9 +1,5 @@
 use Rattle.std.proofs.Common.{◌≡◌, ◌-◌, ℕ, [], ◌∷◌, ◌++◌, sym, ap, ◌∙◌, arith}
-use Rattle.atomic_table.specs.Table.{Me, rest, turned}
-use Rattle.rc_row.specs.declared.law.View.{View}
-use Rattle.rc_row.specs.declared.slot.Slot.TheVariants.{Empty}
-use Rattle.rc_row.specs.Law.{Slot, slot_place}
-use Rattle.rc_row.specs.Passes.{RowSeen}
+use Rattle.rc_row.proofs.Imports.{Me, rest, turned, View, Empty, Slot, slot_place, RowSeen}
 use Rattle.rc_row.proofs.AloneLemmas.{emptied_first, emptied_front, emptied_last, emptied_next}
 use Rattle.rc_row.proofs.OwnLemmas.{emptying}
 use Rattle.rc_row.proofs.row.Row.drop_pointers.Goals as goal

@@ -1,7 +1,5 @@
 use Rattle.std.proofs.Common.{◌≡◌, ◌-◌, ◌≤◌, ℕ, List, [], ◌∷◌, ◌++◌}
-use Rattle.rc_row.specs.declared.slot.Slot.TheVariants.{Empty}
-use Rattle.rc_row.specs.Law.{Slot, slot_place}
-use Rattle.rc_row.specs.Own.{own_hands}
+use Rattle.rc_row.proofs.Imports.{Empty, Slot, slot_place, own_hands}
 use Rattle.rc_row.proofs.OwnLemmas.{emptying}
 use Rattle.rc_row.proofs.row.Row.drop_pointers.Given as goal
 

@@ -1,14 +1,5 @@
 use Rattle.std.proofs.Common.{◌≡◌, Some, None, true, sym, ap, ◌∙◌, subst}
-use Rattle.rc_spec.specs.declared.lock.Found.TheVariants.{Latch}
-use Rattle.rc_core.specs.Passes.{released}
-use Rattle.atomic_table.specs.Table.{rest}
-use Rattle.rc_row.specs.declared.law.Standing.{Standing}
-use Rattle.rc_row.specs.declared.law.View.{View}
-use Rattle.rc_row.specs.declared.slot.Slot.TheVariants.{Empty}
-use Rattle.rc_row.specs.Law.{IsOwn, kept_of, own_place, pass_view, standing_of, view_of}
-use Rattle.rc_row.specs.Passes.{RowSeen, spec_of}
-use Rattle.rc_row.specs.Standings.{latched_out, with_core}
-use Rattle.rc_row.specs.Told.{lacking}
+use Rattle.rc_row.proofs.Imports.{Latch, released, rest, Standing, View, Empty, IsOwn, kept_of, own_place, pass_view, standing_of, view_of, RowSeen, spec_of, latched_out, with_core, lacking}
 use Rattle.rc_row.proofs.FoundLemmas.{has_entered, none_of, some_of}
 use Rattle.rc_row.proofs.GiveLemmas.{front_of}
 use Rattle.rc_row.proofs.OwnRuleLemmas.{own_pointer}

@@ -1,14 +1,5 @@
 use Rattle.std.proofs.Common.{arith, ◌≡◌, ℕ, suc, ◌<◌, List, [], ◌∷◌, ◌++◌, drop, length, sym, ap, ◌∙◌, subst, take, length-append}
-use Rattle.std.specs.Prelude.{All}
-use Rattle.std.proofs.lemmas.List.{map-append}
-use Rattle.rc_tuple.specs.RisingSet.{In}
-use Rattle.atomic_table.specs.Table.{Me}
-use Rattle.rc_row.specs.declared.close.EndedPass.{EndedPass}
-use Rattle.rc_row.specs.declared.law.View.{View}
-use Rattle.rc_row.specs.Ended.{AreEnded}
-use Rattle.rc_row.specs.Law.{Slot, passes_view, numbers_in, standing_of}
-use Rattle.rc_row.specs.Passes.{PassSeen}
-use Rattle.rc_row.specs.Seats.{gathered}
+use Rattle.rc_row.proofs.Imports.{All, map-append, In, Me, EndedPass, View, AreEnded, Slot, passes_view, numbers_in, standing_of, PassSeen, gathered}
 use Rattle.rc_row.proofs.ListLemmas.{all_end, take_whole}
 use Rattle.rc_row.proofs.ClosingLemmas.{IsIdle, ended_more, front_of, in_order, next_of, standings_of}
 use Rattle.rc_row.proofs.row.Row.gather.Goals as goal

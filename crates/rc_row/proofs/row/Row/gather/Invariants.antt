@@ -1,7 +1,5 @@
 use Rattle.std.proofs.Common.{◌≡◌, ◌≤◌, drop, length, take}
-use Rattle.std.specs.Prelude.{All}
-use Rattle.rc_row.specs.Ended.{AreEnded}
-use Rattle.rc_row.specs.Law.{passes_view}
+use Rattle.rc_row.proofs.Imports.{All, AreEnded, passes_view}
 use Rattle.rc_row.proofs.ClosingLemmas.{IsIdle, standings_of}
 use Rattle.rc_row.proofs.row.Row.gather.Given as goal
 

@@ -1,7 +1,4 @@
-use Rattle.std.proofs.Common.{ap, subst}
-use Rattle.rc_spec.specs.declared.lock.Mode.TheVariants.{Exclusive, Shared}
-use Rattle.rc_row.specs.Passes.{PassSeen, core_of}
-use Rattle.rc_row.specs.Released.{IsHeldSo}
+use Rattle.rc_row.proofs.Imports.{ap, subst, Exclusive, Shared, PassSeen, core_of, IsHeldSo}
 use Rattle.rc_row.proofs.GiveAllLemmas.{fewer_left, held_so, rest_without}
 use Rattle.rc_row.proofs.row.Row.release.Goals as goal
 

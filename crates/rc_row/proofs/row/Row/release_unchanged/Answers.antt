@@ -1,7 +1,5 @@
 use Rattle.std.proofs.Common.{◌∙◌, subst}
-use Rattle.rc_spec.specs.declared.lock.Mode.TheVariants.{Exclusive, Shared}
-use Rattle.rc_row.specs.Passes.{core_of, stripes_of}
-use Rattle.rc_row.specs.Released.{IsHeldSo}
+use Rattle.rc_row.proofs.Imports.{Exclusive, Shared, core_of, stripes_of, IsHeldSo}
 use Rattle.rc_row.proofs.GiveAllLemmas.{held_so, inside_so}
 use Rattle.rc_row.proofs.BackLemmas.{held_there, of_row_there, rest_there, stripe_held, without_there}
 use Rattle.rc_row.proofs.row.Row.release_unchanged.Goals as goal

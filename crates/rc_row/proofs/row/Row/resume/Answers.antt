@@ -1,16 +1,5 @@
 use Rattle.std.proofs.Common.{arith, ◌*◌, ◌+◌, ◌-◌, ◌≤◌, ◌^◌, ℕ, List, length, map, min, refl, sym, ap, ◌∙◌, subst}
-use Rattle.std.specs.Prelude.{slice_set}
-use Rattle.std.specs.List.{sum}
-use Rattle.rc_fragment.specs.Keep.{KeptRows}
-use Rattle.rc_rel.specs.declared.entry.Entry.{Entry}
-use Rattle.rc_rel.specs.History.{own_placed}
-use Rattle.rc_spec.specs.PlacementLaws.{placed_total}
-use Rattle.rc_spec.specs.Stripes.{stripe_total}
-use Rattle.rc_spec.specs.declared.spec.Spec.{Spec}
-use Rattle.rc_row.specs.declared.close.EndedPass.{EndedPass}
-use Rattle.rc_row.specs.declared.law.Key.{Key}
-use Rattle.rc_row.specs.Ended.{IsEndedOf}
-use Rattle.rc_row.specs.Law.{history_by}
+use Rattle.rc_row.proofs.Imports.{slice_set, sum, KeptRows, Entry, own_placed, placed_total, stripe_total, Spec, EndedPass, Key, IsEndedOf, history_by}
 use Rattle.rc_row.proofs.ResumingLemmas.{back_in, made_is_length, resumes}
 use Rattle.rc_row.proofs.row.Row.resume.Goals as goal
 

@@ -1,11 +1,5 @@
 use Rattle.std.proofs.Common.{ℕ, ◌∷◌, sym, ap, ◌∙◌, subst}
-use Rattle.rc_fragment.specs.Keep.{KeptRows}
-use Rattle.atomic_table.specs.Table.{Me, rest}
-use Rattle.rc_row.specs.declared.law.View.{View}
-use Rattle.rc_row.specs.declared.slot.Slot.TheVariants.{Handed}
-use Rattle.rc_row.specs.Law.{Slot, kept_in}
-use Rattle.rc_row.specs.Own.{HasInFront}
-use Rattle.rc_row.specs.Passes.{RowSeen}
+use Rattle.rc_row.proofs.Imports.{KeptRows, Me, rest, View, Handed, Slot, kept_in, HasInFront, RowSeen}
 use Rattle.rc_row.proofs.AloneLemmas.{front_kept}
 use Rattle.rc_row.proofs.row.Row.share_out.Goals as goal
 

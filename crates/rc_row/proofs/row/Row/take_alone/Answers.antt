@@ -1,11 +1,5 @@
 use Rattle.std.proofs.Common.{◌≤◌, ℕ, List, ◌∷◌, ◌++◌, length, sym, ap, ◌∙◌, subst, arith}
-use Rattle.atomic_table.specs.Table.{Me, rest}
-use Rattle.rc_row.specs.declared.law.View.{View}
-use Rattle.rc_row.specs.declared.slot.Slot.TheVariants.{Empty}
-use Rattle.rc_row.specs.HeldRows.{HeldRows}
-use Rattle.rc_row.specs.Law.{Slot, kept_in, slot_place}
-use Rattle.rc_row.specs.Own.{hands_out, own_hands}
-use Rattle.rc_row.specs.Passes.{RowSeen}
+use Rattle.rc_row.proofs.Imports.{Me, rest, View, Empty, HeldRows, Slot, kept_in, slot_place, hands_out, own_hands, RowSeen}
 use Rattle.rc_row.proofs.AloneLemmas.{locked_apart, locked_handed, locked_left, locked_some}
 use Rattle.rc_row.proofs.GiveLemmas.{front_of}
 use Rattle.rc_row.proofs.row.Row.take_alone.Goals as goal

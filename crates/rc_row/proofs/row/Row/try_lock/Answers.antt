@@ -1,14 +1,5 @@
 use Rattle.std.proofs.Common.{◌≡◌, suc, ◌+◌, ◌*◌, ℕ, List, [], ◌∷◌, ◌++◌, sym, refl, ap, ◌∙◌, subst}
-use Rattle.rc_spec.specs.declared.lock.Mode.TheVariants.{Exclusive}
-use Rattle.rc_core.specs.Passes.{locked}
-use Rattle.rc_row.specs.declared.pass.Pass.TheInside.{Inside}
-use Rattle.rc_row.specs.HeldRows.{HeldRows, just_held}
-use Rattle.rc_row.specs.Law.{Slot, kept_of, pass_view, standing_of}
-use Rattle.rc_row.specs.Own.{hand_out, hands_out}
-use Rattle.rc_row.specs.PassInside.{pass_seen}
-use Rattle.rc_row.specs.Passes.{IsPassOf, RowSeen, spec_of, stripes_of, with_taken}
-use Rattle.rc_row.specs.Standings.{with_core}
-use Rattle.rc_row.specs.Told.{HasLocked, passes_in}
+use Rattle.rc_row.proofs.Imports.{Exclusive, locked, Inside, HeldRows, just_held, Slot, kept_of, pass_view, standing_of, hand_out, hands_out, pass_seen, IsPassOf, RowSeen, spec_of, stripes_of, with_taken, with_core, HasLocked, passes_in}
 use Rattle.rc_row.proofs.FoundLemmas.{has_locked, locked_with}
 use Rattle.rc_row.proofs.StepLemmas.{KeepsOwn, pass_of_taken, seen_taken, whole_taken}
 use Rattle.rc_row.proofs.WholeLemmas.{above_there, few_all, high_there, out_there, passes_there, room_there}

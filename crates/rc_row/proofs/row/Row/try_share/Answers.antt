@@ -1,10 +1,5 @@
 use Rattle.std.proofs.Common.{◌≡◌, suc, ◌+◌, ◌*◌, [], ◌∷◌, ◌++◌, sym, refl, ap, ◌∙◌, subst}
-use Rattle.rc_spec.specs.declared.lock.Mode.TheVariants.{Shared}
-use Rattle.rc_row.specs.declared.pass.Pass.TheInside.{Inside}
-use Rattle.rc_row.specs.HeldRows.{HeldRows, just_held}
-use Rattle.rc_row.specs.Law.{kept_of}
-use Rattle.rc_row.specs.Told.{passes_in}
-use Rattle.rc_row.specs.Passes.{IsPassOf, RowSeen, spec_of, stripes_of}
+use Rattle.rc_row.proofs.Imports.{Shared, Inside, HeldRows, just_held, kept_of, passes_in, IsPassOf, RowSeen, spec_of, stripes_of}
 use Rattle.rc_row.proofs.StepLemmas.{KeepsOwn, pass_of_taken, seen_taken, whole_taken}
 use Rattle.rc_row.proofs.WholeLemmas.{above_there, high_there, passes_there, room_there}
 use Rattle.rc_row.proofs.row.Row.try_share.Goals as goal

@@ -1,15 +1,5 @@
 use Rattle.std.proofs.Common.{◌≡◌, ◌≤◌, ℕ, suc, List, ◌∷◌, ◌++◌, drop, take, sym, refl, ap, ◌∙◌, subst, arith}
-use Rattle.rc_core.specs.Passes.{released, rows_of_hold}
-use Rattle.atomic_table.specs.Table.{Me, rest}
-use Rattle.rc_row.specs.declared.law.View.{View}
-use Rattle.rc_row.specs.declared.pass.Pass.TheInside.{Inside}
-use Rattle.rc_row.specs.declared.slot.Slot.TheVariants.{Apart, Empty}
-use Rattle.rc_row.specs.HeldRows.{HeldRows}
-use Rattle.rc_row.specs.Law.{Slot, kept_of, pass_view, slot_place, standing_of}
-use Rattle.rc_row.specs.Own.{hands_out, own_hands, turned_times}
-use Rattle.rc_row.specs.Passes.{IsPassOf, RowSeen, spec_of}
-use Rattle.rc_row.specs.Standings.{with_core}
-use Rattle.rc_row.specs.Told.{passes_in}
+use Rattle.rc_row.proofs.Imports.{released, rows_of_hold, Me, rest, View, Inside, Apart, Empty, HeldRows, Slot, kept_of, pass_view, slot_place, standing_of, hands_out, own_hands, turned_times, IsPassOf, RowSeen, spec_of, with_core, passes_in}
 use Rattle.rc_row.proofs.OwnLemmas.{behind_owns}
 use Rattle.rc_row.proofs.TurnLemmas.{back_as, count_as, place_inside, read_here, turned_last}
 use Rattle.rc_row.proofs.GiveLemmas.{behind_front, front_of, front_written, home_here, left_here}

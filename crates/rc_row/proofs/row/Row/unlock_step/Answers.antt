@@ -1,5 +1,4 @@
-use Rattle.std.proofs.Common.{ℕ, subst}
-use Rattle.rc_row.specs.Told.{HasUnlocked}
+use Rattle.rc_row.proofs.Imports.{ℕ, subst, HasUnlocked}
 use Rattle.rc_row.proofs.SeatStepLemmas.{unlocks_at}
 use Rattle.rc_row.proofs.WholeLemmas.{passes_seen}
 use Rattle.rc_row.proofs.row.Row.unlock_step.Goals as goal

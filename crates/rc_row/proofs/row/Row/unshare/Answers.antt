@@ -1,15 +1,5 @@
 use Rattle.std.proofs.Common.{◌≡◌, ◌≤◌, ℕ, suc, ◌∷◌, ◌++◌, None, drop, take, sym, refl, ap, ◌∙◌, subst, arith}
-use Rattle.rc_core.specs.Passes.{released, rows_of_hold}
-use Rattle.atomic_table.specs.Table.{Me, rest}
-use Rattle.rc_row.specs.declared.law.View.{View}
-use Rattle.rc_row.specs.declared.pass.Pass.TheInside.{Inside}
-use Rattle.rc_row.specs.declared.slot.Slot.TheVariants.{Empty}
-use Rattle.rc_row.specs.HeldRows.{HeldRows}
-use Rattle.rc_row.specs.Law.{Slot, own_place, pass_view, standing_of}
-use Rattle.rc_row.specs.Own.{hands_out, pointer_in, turned_times}
-use Rattle.rc_row.specs.Passes.{IsPassOf, RowSeen, spec_of}
-use Rattle.rc_row.specs.Standings.{with_core}
-use Rattle.rc_row.specs.Told.{passes_in}
+use Rattle.rc_row.proofs.Imports.{released, rows_of_hold, Me, rest, View, Inside, Empty, HeldRows, Slot, own_place, pass_view, standing_of, hands_out, pointer_in, turned_times, IsPassOf, RowSeen, spec_of, with_core, passes_in}
 use Rattle.rc_row.proofs.TurnLemmas.{back_as, count_as, place_inside, read_here, turned_last}
 use Rattle.rc_row.proofs.GiveLemmas.{front_of, front_shared, left_here, lent_here, may_leave, own_of}
 use Rattle.rc_row.proofs.StepLemmas.{KeepsOwn, pass_of_without, seen_without, whole_without}

@@ -1,7 +1,5 @@
 use Rattle.std.proofs.Common.{◌≡◌}
-use Rattle.rc_spec.specs.declared.lock.Mode.TheVariants.{Shared}
-use Rattle.rc_row.specs.Passes.{core_of, with_standing}
-use Rattle.rc_row.specs.Standings.{KeepsOut, turned_away}
+use Rattle.rc_row.proofs.Imports.{Shared, core_of, with_standing, KeepsOut, turned_away}
 use Rattle.rc_row.proofs.FoundLemmas.{some_of}
 use Rattle.rc_row.proofs.WaitLemmas.{waited_first, waited_above, waited_more}
 use Rattle.rc_row.proofs.row.Row.wait_share.Goals as goal

@@ -1,5 +1,4 @@
-use Rattle.rc_spec.specs.declared.lock.Mode.TheVariants.{Shared}
-use Rattle.rc_row.specs.Passes.{HasWaited, IsPassOf}
+use Rattle.rc_row.proofs.Imports.{Shared, HasWaited, IsPassOf}
 use Rattle.rc_row.proofs.row.Row.wait_share.Given as goal
 
 abbrev pub invariant-loop : goal.invariant-loop

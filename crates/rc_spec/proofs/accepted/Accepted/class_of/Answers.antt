@@ -1,7 +1,5 @@
 use Rattle.std.proofs.Common.{◌<◌, ◌∙◌, ap, length, sym, subst}
-use Rattle.rc_spec.specs.declared.spec.Spec.{Spec}
-use Rattle.rc_spec.specs.Placement.{class_of}
-use Rattle.rc_spec.specs.PlacementLaws.{class_of_known}
+use Rattle.rc_spec.proofs.Imports.{Spec, class_of, class_of_known}
 use Rattle.rc_spec.proofs.accepted.Accepted.class_of.Goals as goal
 
 pub returns-clause-known : goal.returns-clause-known

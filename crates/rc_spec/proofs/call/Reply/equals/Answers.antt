@@ -1,9 +1,5 @@
 use Rattle.std.proofs.Common.{◌≡◌, ◌∙◌, ap, sym}
-use Rattle.std.specs.Ordering.{is_eq}
-use Rattle.rc_tuple.specs.Tuple.{Pairs, tuple_eq}
-use Rattle.rc_tuple.specs.TupleLaws.{same_from_test, test_from_same}
-use Rattle.rc_spec.specs.declared.call.Reply.{Reply}
-use Rattle.rc_spec.specs.declared.call.Reply.TheVariants.{Removed, Updated}
+use Rattle.rc_spec.proofs.Imports.{is_eq, Pairs, tuple_eq, same_from_test, test_from_same, Reply, Removed, Updated}
 use Rattle.rc_spec.proofs.call.Reply.equals.Goals as goal
 
 one_tuple : (a b : Reply) (t u : Pairs) → a ≡ Removed t → b ≡ Removed u → a ≡ b → t ≡ u

@@ -1,8 +1,5 @@
 use Rattle.std.proofs.Common.{ap, ◌∙◌, map}
-use Rattle.rc_tuple.specs.RisingSet.{put}
-use Rattle.rc_spec.specs.Plain.{row_cmp}
-use Rattle.rc_spec.specs.Rows.{rows_in}
-use Rattle.rc_spec.specs.RowsLaws.{rows_in-insert}
+use Rattle.rc_spec.proofs.Imports.{put, row_cmp, rows_in, rows_in-insert}
 use Rattle.rc_spec.proofs.query_rows.QueryRows.add.Goals as goal
 
 pub returns-clause-ok : goal.returns-clause-ok

@@ -1,7 +1,5 @@
 use Rattle.std.proofs.Common.{◌≡◌, ◌<◌, ◌≤◌, ◌*◌, ◌^◌, ◌∙◌, suc, ap, sym, subst, get_or, length, arith}
-use Rattle.std.proofs.Math.Nat.{mul-le-mul_right, suc-mul}
-use Rattle.rc_spec.specs.RowEnds.{AreInRange, ends_of, even_ends}
-use Rattle.rc_spec.specs.RowEndsLaws.{length-even_ends, start_even}
+use Rattle.rc_spec.proofs.Imports.{mul-le-mul_right, suc-mul, AreInRange, ends_of, even_ends, length-even_ends, start_even}
 use Rattle.rc_spec.proofs.row_ends.RowEnds.end_of.Goals as goal
 use Rattle.rc_spec.proofs.row_ends.RowEnds.end_of.Goals.{In-Even}
 

@@ -1,6 +1,5 @@
 use Rattle.std.proofs.Common.{ap, length, sym, ◌∙◌}
-use Rattle.rc_spec.specs.RowEnds.{ends_of}
-use Rattle.rc_spec.specs.RowEndsLaws.{length-even_ends}
+use Rattle.rc_spec.proofs.Imports.{ends_of, length-even_ends}
 use Rattle.rc_spec.proofs.row_ends.RowEnds.len.Goals as goal
 
 pub returns-in-Even : goal.returns-in-Even

@@ -1,6 +1,5 @@
 use Rattle.std.proofs.Common.{◌≡◌, ◌∷◌, ap, sym, ◌∙◌, get_or, length, arith}
-use Rattle.rc_spec.specs.RowEnds.{ends_of, even_ends}
-use Rattle.rc_spec.specs.RowEndsLaws.{length-even_ends, start_even}
+use Rattle.rc_spec.proofs.Imports.{ends_of, even_ends, length-even_ends, start_even}
 use Rattle.rc_spec.proofs.row_ends.RowEnds.push.Goals as goal
 
 pub even_and-requires : goal.even_and-requires

@@ -1,7 +1,5 @@
 use Rattle.std.proofs.Common.{◌≡◌, ◌<◌, ◌≤◌, ◌*◌, ◌^◌, ◌∷◌, ◌∙◌, ap, sym, subst, get_or, length, arith}
-use Rattle.std.proofs.Math.Nat.{mul-le-mul_right}
-use Rattle.rc_spec.specs.RowEnds.{AreInRange, ends_of, even_ends}
-use Rattle.rc_spec.specs.RowEndsLaws.{length-even_ends, start_even}
+use Rattle.rc_spec.proofs.Imports.{mul-le-mul_right, AreInRange, ends_of, even_ends, length-even_ends, start_even}
 use Rattle.rc_spec.proofs.row_ends.RowEnds.start_of.Goals as goal
 use Rattle.rc_spec.proofs.row_ends.RowEnds.start_of.Goals.{In-Even}
 

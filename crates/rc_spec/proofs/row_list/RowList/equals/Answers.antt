@@ -1,7 +1,5 @@
 use Rattle.std.proofs.Common.{◌≡◌, ◌∙◌, ◌++◌, ◌∷◌, [], ℕ, Bool, true, false, List, ap, sym, take, get_or, arith, refl, not}
-use Rattle.std.proofs.lemmas.List.{take_more}
-use Rattle.std.proofs.lemmas.Slice.Eq.{slice_eq-Decides}
-use Rattle.std.proofs.lemmas.Bool.Decides.{Decides-eqb}
+use Rattle.rc_spec.proofs.Imports.{take_more, slice_eq-Decides, Decides-eqb}
 use Rattle.rc_spec.proofs.row_list.RowList.equals.Goals as goal
 
 from_not : (b : Bool) → not b ≡ false → b ≡ true

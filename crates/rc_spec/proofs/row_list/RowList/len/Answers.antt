@@ -1,5 +1,4 @@
-use Rattle.std.proofs.Common.{ap, length, arith}
-use Rattle.rc_spec.specs.RowListsLaws.{length-rows_from}
+use Rattle.rc_spec.proofs.Imports.{ap, length, arith, length-rows_from}
 use Rattle.rc_spec.proofs.row_list.RowList.len.Goals as goal
 
 pub returns : goal.returns

@@ -1,7 +1,5 @@
 use Rattle.std.proofs.Common.{ap, length, subst, sym, ◌∙◌, arith}
-use Rattle.rc_spec.specs.RowEnds.{even_ends}
-use Rattle.rc_spec.specs.RowLists.{AreEnds, rows_from}
-use Rattle.rc_spec.specs.RowListsLaws.{AreEnds-even, rows_from-even}
+use Rattle.rc_spec.proofs.Imports.{even_ends, AreEnds, rows_from, AreEnds-even, rows_from-even}
 use Rattle.rc_spec.proofs.row_list.RowList.of_width.Goals as goal
 
 pub invariant_of-result : goal.invariant_of-result

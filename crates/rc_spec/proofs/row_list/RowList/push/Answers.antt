@@ -1,7 +1,5 @@
 use Rattle.std.proofs.Common.{◌≡◌, ◌+◌, ◌++◌, ◌∷◌, [], ℕ, length, subst, sym, ap, ◌∙◌, arith}
-use Rattle.std.proofs.lemmas.List.{length-append}
-use Rattle.rc_spec.specs.RowLists.{AreEnds, rows_from}
-use Rattle.rc_spec.specs.RowListsLaws.{AreEnds-push, last_end, rows_from-push}
+use Rattle.rc_spec.proofs.Imports.{length-append, AreEnds, rows_from, AreEnds-push, last_end, rows_from-push}
 use Rattle.rc_spec.proofs.row_list.RowList.push.Goals as goal
 use Rattle.rc_spec.proofs.row_list.RowList.push.Goals.{After-len}
 

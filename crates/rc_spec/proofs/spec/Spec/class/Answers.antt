@@ -1,8 +1,4 @@
-use Rattle.std.proofs.Common.{length, subst}
-use Rattle.rc_spec.specs.declared.items.Class.{Class}
-use Rattle.rc_spec.specs.Placement.{no_class}
-use Rattle.rc_spec.specs.DecompositionLaws.{at_found, class_among}
-use Rattle.rc_spec.specs.InRange.{IsSetBelow}
+use Rattle.rc_spec.proofs.Imports.{length, subst, Class, no_class, at_found, class_among, IsSetBelow}
 use Rattle.rc_spec.proofs.spec.Spec.class.Goals as goal
 
 pub returns-clause-known : goal.returns-clause-known

@@ -1,8 +1,5 @@
 use Rattle.std.proofs.Common.{◌≡◌, drop, eqb}
-use Rattle.std.specs.List.{find}
-use Rattle.std.specs.Option.{option_map_or}
-use Rattle.rc_spec.specs.declared.items.Place.{Place}
-use Rattle.rc_spec.specs.Placement.{class_of}
+use Rattle.rc_spec.proofs.Imports.{find, option_map_or, Place, class_of}
 use Rattle.rc_spec.proofs.spec.Spec.class_of.Given as goal
 
 abbrev pub invariant-loop-place : goal.invariant-loop-place

@@ -1,8 +1,4 @@
-use Rattle.std.proofs.Common.{length, subst}
-use Rattle.rc_spec.specs.declared.items.Edge.{Edge}
-use Rattle.rc_spec.specs.Decomposition.{no_edge}
-use Rattle.rc_spec.specs.DecompositionLaws.{at_found, edge_among}
-use Rattle.rc_spec.specs.InRange.{IsEdgeAmong}
+use Rattle.rc_spec.proofs.Imports.{length, subst, Edge, no_edge, at_found, edge_among, IsEdgeAmong}
 use Rattle.rc_spec.proofs.spec.Spec.edge.Goals as goal
 
 pub returns-clause-known : goal.returns-clause-known

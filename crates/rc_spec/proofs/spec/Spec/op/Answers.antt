@@ -1,8 +1,4 @@
-use Rattle.std.proofs.Common.{length, subst}
-use Rattle.rc_spec.specs.declared.items.Op.{Op}
-use Rattle.rc_spec.specs.Placement.{no_op}
-use Rattle.rc_spec.specs.DecompositionLaws.{at_found, op_among}
-use Rattle.rc_spec.specs.InRange.{IsOpAmong}
+use Rattle.rc_spec.proofs.Imports.{length, subst, Op, no_op, at_found, op_among, IsOpAmong}
 use Rattle.rc_spec.proofs.spec.Spec.op.Goals as goal
 
 pub returns-clause-known : goal.returns-clause-known

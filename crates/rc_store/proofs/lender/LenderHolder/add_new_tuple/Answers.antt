@@ -1,14 +1,5 @@
-use Rattle.std.proofs.lemmas.Result.{on_err_weaker, on_ok_weaker}
+use Rattle.rc_store.proofs.Imports.{on_err_weaker, on_ok_weaker, List, HasNoRowOf, HasRowOf, raised_all, class_rows, changes_of_class, with_tuple, EdgeShape, PassSeen, lending, may_add_new, partly_lent, partly_of_row, told_change, told_partly, told_rows, written_there}
 use Rattle.std.proofs.Common.{refl, ap, ◌∙◌}
-use Rattle.std.specs.Prelude.{List}
-use Rattle.rc_fragment.specs.Fragment.{HasNoRowOf, HasRowOf}
-use Rattle.rc_fragment.specs.Implied.{raised_all}
-use Rattle.rc_fragment.specs.ImpliedTables.{class_rows}
-use Rattle.rc_fragment.specs.Tuples.{changes_of_class, with_tuple}
-use Rattle.rc_fragment.specs.declared.shape.EdgeShape.{EdgeShape}
-use Rattle.rc_row.specs.Passes.{PassSeen}
-use Rattle.rc_store.specs.Lending.{lending}
-use Rattle.rc_store.specs.LendingLaws.{may_add_new, partly_lent, partly_of_row, told_change, told_partly, told_rows, written_there}
 use Rattle.rc_store.proofs.lender.LenderHolder.add_new_tuple.Goals as goal
 
 pub add_new_tuple-requires-clause-held : goal.add_new_tuple-requires-clause-held

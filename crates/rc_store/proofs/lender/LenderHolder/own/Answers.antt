@@ -1,9 +1,5 @@
-use Rattle.std.proofs.lemmas.Result.{on_ok_weaker}
+use Rattle.rc_store.proofs.Imports.{on_ok_weaker, with_promise, PassSeen, lending, may_lent, may_of_row, told_room, written_there}
 use Rattle.std.proofs.Common.{refl, ap, ◌∙◌}
-use Rattle.rc_fragment.specs.FragmentRows.{with_promise}
-use Rattle.rc_row.specs.Passes.{PassSeen}
-use Rattle.rc_store.specs.Lending.{lending}
-use Rattle.rc_store.specs.LendingLaws.{may_lent, may_of_row, told_room, written_there}
 use Rattle.rc_store.proofs.lender.LenderHolder.own.Goals as goal
 
 pub own-requires : goal.own-requires

@@ -1,12 +1,5 @@
 use Rattle.std.proofs.Common.{refl, sym, ap, subst, ◌∙◌}
-use Rattle.std.specs.Prelude.{List}
-use Rattle.rc_fragment.specs.Implied.{lowered_all}
-use Rattle.rc_fragment.specs.ImpliedTables.{class_rows}
-use Rattle.rc_fragment.specs.Tuples.{changes_of_class, without_tuple}
-use Rattle.rc_fragment.specs.declared.shape.EdgeShape.{EdgeShape}
-use Rattle.rc_row.specs.Passes.{IsPassOf, PassSeen}
-use Rattle.rc_store.specs.Lending.{IsLentSo, lending}
-use Rattle.rc_store.specs.LendingLaws.{at_lent, at_of_row, may_sub, told_change, written_there}
+use Rattle.rc_store.proofs.Imports.{List, lowered_all, class_rows, changes_of_class, without_tuple, EdgeShape, IsPassOf, PassSeen, IsLentSo, lending, at_lent, at_of_row, may_sub, told_change, written_there}
 use Rattle.rc_store.proofs.lender.LenderHolder.sub_tuple.Goals as goal
 
 pub sub_tuple-requires-clause-held : goal.sub_tuple-requires-clause-held

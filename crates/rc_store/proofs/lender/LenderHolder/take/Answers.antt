@@ -1,7 +1,5 @@
 use Rattle.std.proofs.Common.{◌≡◌, false, refl}
-use Rattle.rc_row.specs.Passes.{with_standing}
-use Rattle.rc_row.specs.Standings.{turned_away}
-use Rattle.rc_store.specs.LendingLaws.{above_there, refused_so, some_of}
+use Rattle.rc_store.proofs.Imports.{with_standing, turned_away, above_there, refused_so, some_of}
 use Rattle.rc_store.proofs.lender.LenderHolder.take.Goals as goal
 
 pub take-requires-clause-above : goal.take-requires-clause-above

@@ -1,13 +1,5 @@
 use Rattle.std.proofs.Common.{◌≡◌, ◌<◌, List, ap, arith, length, refl, subst, sym, ◌∙◌}
-use Rattle.std.proofs.lemmas.Bool.{false≢true}
-use Rattle.rc_spec.specs.Locks.{StripeLock}
-use Rattle.rc_multi.specs.Group.{Covers}
-use Rattle.rc_row.specs.Passes.{PassSeen, compiled_of}
-use Rattle.rc_store.specs.OpenGroupLaws.{called_back, called_on, covers_on, now_on, rises_on}
-use Rattle.rc_store.specs.OpenGroups.{HasCalledOn, IsOpenOn, OpenGroupSeen, open_group}
-use Rattle.rc_store.specs.OpenInside.{open_group_seen}
-use Rattle.rc_store.specs.RunningInside.{steps_in}
-use Rattle.rc_store.specs.Store.{IsAsBefore}
+use Rattle.rc_store.proofs.Imports.{false≢true, StripeLock, Covers, PassSeen, compiled_of, called_back, called_on, covers_on, now_on, rises_on, HasCalledOn, IsOpenOn, OpenGroupSeen, open_group, open_group_seen, steps_in, IsAsBefore}
 use Rattle.rc_store.proofs.open_group.OpenGroup.call.Given.{Over}
 use Rattle.rc_store.proofs.open_group.OpenGroup.call.Goals.{After-call_on, After-covers}
 use Rattle.rc_store.proofs.open_group.OpenGroup.call.Goals as goal

@@ -1,8 +1,4 @@
-use Rattle.std.proofs.Common.{List, subst, sym}
-use Rattle.rc_spec.specs.Locks.{StripeLock}
-use Rattle.rc_store.specs.OpenGroups.{HasMadeOpenGroup, IsOpenOn, OpenGroupSeen, open_group}
-use Rattle.rc_store.specs.OpenInside.{open_group_seen}
-use Rattle.rc_store.specs.RunningInside.{steps_in}
+use Rattle.rc_store.proofs.Imports.{List, subst, sym, StripeLock, HasMadeOpenGroup, IsOpenOn, OpenGroupSeen, open_group, open_group_seen, steps_in}
 use Rattle.rc_store.proofs.open_group.OpenGroup.commit.Goals as goal
 
 pub returns-clause-made : goal.returns-clause-made

@@ -1,6 +1,4 @@
-use Rattle.std.proofs.Common.{sym, subst, arith}
-use Rattle.rc_spec.specs.Acceptance.{IsSealed}
-use Rattle.rc_spec.specs.PlacementLaws.{placed_total}
+use Rattle.rc_store.proofs.Imports.{sym, subst, arith, IsSealed, placed_total}
 use Rattle.rc_store.proofs.resume.ResumingRoom.new.Goals as goal
 
 pub stripe_total-stripes-requires : goal.stripe_total-stripes-requires

@@ -1,7 +1,4 @@
-use Rattle.std.proofs.Common.{subst}
-use Rattle.rc_store.specs.Running.{RunningSeen}
-use Rattle.rc_store.specs.StepLaws.{call_made, free_made}
-use Rattle.rc_store.specs.Store.{IsCallFinished, one_step}
+use Rattle.rc_store.proofs.Imports.{subst, RunningSeen, call_made, free_made, IsCallFinished, one_step}
 use Rattle.rc_store.proofs.running.Running.commit.Goals as goal
 
 pub returns-clause-made : goal.returns-clause-made

@@ -1,12 +1,5 @@
 use Rattle.std.proofs.Common.{rules, ◌≡◌, ◌<◌, List, Some, ap, length, subst, sym, ◌∙◌}
-use Rattle.std.specs.List.{slice_get}
-use Rattle.rc_spec.specs.declared.call.Call.{Call}
-use Rattle.rc_rel.specs.declared.entry.Step.{Step}
-use Rattle.rc_rel.specs.History.{with_replies}
-use Rattle.rc_rel.specs.HistoryLaws.{calls-with_replies}
-use Rattle.rc_store.specs.Running.{calls_of}
-use Rattle.rc_store.specs.RunningGroupLaws.{as_many, call_there, item_there}
-use Rattle.rc_store.specs.RunningInside.{HasReplyEach, steps_in}
+use Rattle.rc_store.proofs.Imports.{slice_get, Call, Step, with_replies, calls-with_replies, calls_of, as_many, call_there, item_there, HasReplyEach, steps_in}
 use Rattle.rc_store.proofs.running_group.PreparedGroup.call.Goals.{In-Counted}
 use Rattle.rc_store.proofs.running_group.PreparedGroup.call.Goals as goal
 

@@ -1,7 +1,5 @@
 use Rattle.std.proofs.Common.{rules, ◌≡◌, ap, length, subst, ◌∙◌}
-use Rattle.rc_store.specs.declared.running_group.PreparedGroup.{PreparedGroup}
-use Rattle.rc_store.specs.RunningGroupLaws.{as_many}
-use Rattle.rc_store.specs.RunningInside.{HasReplyEach, steps_in}
+use Rattle.rc_store.proofs.Imports.{PreparedGroup, as_many, HasReplyEach, steps_in}
 use Rattle.rc_store.proofs.running_group.PreparedGroup.count.Goals as goal
 
 pub returns-in-Counted : goal.returns-in-Counted

@@ -1,11 +1,5 @@
 use Rattle.std.proofs.Common.{rules, ◌≡◌, ◌<◌, List, Some, ap, length, subst, sym, ◌∙◌}
-use Rattle.std.specs.List.{slice_get}
-use Rattle.rc_spec.specs.declared.call.Reply.{Reply}
-use Rattle.rc_rel.specs.declared.entry.Step.{Step}
-use Rattle.rc_rel.specs.History.{with_replies}
-use Rattle.rc_store.specs.Running.{replies_of}
-use Rattle.rc_store.specs.RunningGroupLaws.{as_many, item_there, replies_are, reply_there}
-use Rattle.rc_store.specs.RunningInside.{HasReplyEach, steps_in}
+use Rattle.rc_store.proofs.Imports.{slice_get, Reply, Step, with_replies, replies_of, as_many, item_there, replies_are, reply_there, HasReplyEach, steps_in}
 use Rattle.rc_store.proofs.running_group.PreparedGroup.reply.Goals.{In-Counted}
 use Rattle.rc_store.proofs.running_group.PreparedGroup.reply.Goals as goal
 

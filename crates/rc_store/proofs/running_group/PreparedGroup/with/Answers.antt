@@ -1,9 +1,5 @@
 use Rattle.std.proofs.Common.{List, ap, subst, sym, ◌∙◌}
-use Rattle.rc_rel.specs.declared.entry.Step.{Step}
-use Rattle.rc_rel.specs.History.{with_replies}
-use Rattle.rc_multi.specs.Group.{with_step}
-use Rattle.rc_store.specs.RunningGroupLaws.{with_one_more}
-use Rattle.rc_store.specs.RunningInside.{HasReplyEach, steps_in}
+use Rattle.rc_store.proofs.Imports.{Step, with_replies, with_step, with_one_more, HasReplyEach, steps_in}
 use Rattle.rc_store.proofs.running_group.PreparedGroup.with.Goals as goal
 
 pub returns-in_ok-push-in-Counted-2-clause-steps : goal.returns-in_ok-push-in-Counted-2-clause-steps

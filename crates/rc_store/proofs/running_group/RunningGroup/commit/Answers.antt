@@ -1,9 +1,4 @@
-use Rattle.std.proofs.Common.{subst}
-use Rattle.rc_store.specs.Running.{RunningGroupSeen, calls_of, replies_of}
-use Rattle.rc_store.specs.RunningGroupLaws.{running_group_made}
-use Rattle.rc_store.specs.StepLaws.{free_made}
-use Rattle.rc_store.specs.Store.{IsGroupFinished}
-use Rattle.rc_rel.specs.History.{with_replies}
+use Rattle.rc_store.proofs.Imports.{subst, RunningGroupSeen, calls_of, replies_of, running_group_made, free_made, IsGroupFinished, with_replies}
 use Rattle.rc_store.proofs.running_group.RunningGroup.commit.Goals as goal
 
 pub returns-clause-made : goal.returns-clause-made

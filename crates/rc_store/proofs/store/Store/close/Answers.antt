@@ -1,12 +1,5 @@
 use Rattle.std.proofs.Common.{◌≡◌, List, ap, sym, subst, ◌∙◌}
-use Rattle.rc_rel.specs.declared.entry.Entry.{Entry}
-use Rattle.rc_rel.specs.History.{IsPrefix}
-use Rattle.rc_row.specs.Law.{history_by}
-use Rattle.rc_row.specs.Passes.{RowSeen, compiled_of, spec_of}
-use Rattle.rc_store.specs.Closed.{HasClosed, made_by}
-use Rattle.rc_store.specs.ClosedInside.{closed_seen}
-use Rattle.rc_store.specs.ClosedLaws.{has_closed, history_of, named_in, journal_of_history, one_history, one_table, room_of, room_of_history}
-use Rattle.rc_store.specs.Store.{StoreSeen}
+use Rattle.rc_store.proofs.Imports.{Entry, IsPrefix, history_by, RowSeen, compiled_of, spec_of, HasClosed, made_by, closed_seen, has_closed, history_of, named_in, journal_of_history, one_history, one_table, room_of, room_of_history, StoreSeen}
 use Rattle.rc_store.proofs.store.Store.close.Given as given
 use Rattle.rc_store.proofs.store.Store.close.Goals as goal
 

@@ -1,9 +1,4 @@
-use Rattle.std.proofs.Common.{sym, ap, subst}
-use Rattle.rc_rel.specs.History.{with_replies}
-use Rattle.rc_row.specs.Passes.{PassSeen, RowSeen}
-use Rattle.rc_store.specs.Prepared.{IsReady}
-use Rattle.rc_store.specs.StepLaws.{settled_at_rest}
-use Rattle.rc_store.specs.Store.{StoreSeen}
+use Rattle.rc_store.proofs.Imports.{sym, ap, subst, with_replies, PassSeen, RowSeen, IsReady, settled_at_rest, StoreSeen}
 use Rattle.rc_store.proofs.store.Store.commit_counted.Goals as goal
 
 pub commit_calls-place-requires-clause-allowed : goal.commit_calls-place-requires-clause-allowed

@@ -1,10 +1,5 @@
 use Rattle.std.proofs.Common.{◌≡◌, sym, ap, subst}
-use Rattle.rc_rel.specs.declared.entry.Entry.{Entry}
-use Rattle.rc_core.specs.Passes.{MayCommit, committed}
-use Rattle.rc_row.specs.Passes.{PassSeen, RowSeen, compiled_of, core_of, holds_now}
-use Rattle.rc_store.specs.Prepared.{IsReady}
-use Rattle.rc_store.specs.StepLaws.{settled_at_rest}
-use Rattle.rc_store.specs.Store.{StoreSeen}
+use Rattle.rc_store.proofs.Imports.{Entry, MayCommit, committed, PassSeen, RowSeen, compiled_of, core_of, holds_now, IsReady, settled_at_rest, StoreSeen}
 use Rattle.rc_store.proofs.store.Store.commit_entry.Goals as goal
 
 pub commit-place-requires-clause-allowed : goal.commit-place-requires-clause-allowed

@@ -1,11 +1,5 @@
 use Rattle.std.proofs.Common.{◌≡◌, List, ap, subst, sym, ◌∙◌}
-use Rattle.rc_spec.specs.declared.call.Call.{Call}
-use Rattle.rc_spec.specs.declared.call.Reply.{Reply}
-use Rattle.rc_rel.specs.HistoryLaws.{calls-with_replies, with_replies-parts}
-use Rattle.rc_store.specs.Running.{calls_of, replies_of}
-use Rattle.rc_store.specs.RunningGroupLaws.{replies_are}
-use Rattle.rc_store.specs.RunningInside.{IsOfPass, steps_in}
-use Rattle.rc_store.specs.Store.{IsGroupFinished}
+use Rattle.rc_store.proofs.Imports.{Call, Reply, calls-with_replies, with_replies-parts, calls_of, replies_of, replies_are, IsOfPass, steps_in, IsGroupFinished}
 use Rattle.rc_store.proofs.store.Store.commit_group.Goals as goal
 
 pub returns-in-Entry-clause-finished : goal.returns-in-Entry-clause-finished

@@ -1,10 +1,5 @@
 use Rattle.std.proofs.Common.{◌≤◌, ◌^◌, ap, subst, sym, ◌∙◌}
-use Rattle.rc_plan.specs.Compiled.{IsCompiled, SpecWithPlans}
-use Rattle.rc_row.specs.Passes.{compiled_of}
-use Rattle.rc_store.specs.OpenGroupLaws.{kept_prepared, open_group_made, unneeded_unchanged}
-use Rattle.rc_store.specs.OpenGroups.{open_group}
-use Rattle.rc_store.specs.RunningInside.{steps_in}
-use Rattle.rc_store.specs.Store.{StoreSeen}
+use Rattle.rc_store.proofs.Imports.{IsCompiled, SpecWithPlans, compiled_of, kept_prepared, open_group_made, unneeded_unchanged, open_group, steps_in, StoreSeen}
 use Rattle.rc_store.proofs.store.Store.commit_open.Given.{Over}
 use Rattle.rc_store.proofs.store.Store.commit_open.Goals.{After-accepted}
 use Rattle.rc_store.proofs.store.Store.commit_open.Goals as goal

@@ -1,9 +1,4 @@
-use Rattle.std.proofs.Common.{List, ap, subst}
-use Rattle.rc_rel.specs.declared.entry.Entry.{Entry}
-use Rattle.rc_rel.specs.declared.entry.Step.{Step}
-use Rattle.rc_store.specs.RunningInside.{IsOfStep}
-use Rattle.rc_store.specs.StepLaws.{is_kept, no_reply_given}
-use Rattle.rc_store.specs.Store.{IsFinished}
+use Rattle.rc_store.proofs.Imports.{List, ap, subst, Entry, Step, IsOfStep, is_kept, no_reply_given, IsFinished}
 use Rattle.rc_store.proofs.store.Store.commit_prepared.Goals as goal
 
 pub returns-in-Entry-clause-finished : goal.returns-in-Entry-clause-finished

@@ -1,8 +1,5 @@
 use Rattle.std.proofs.Common.{List, ap, subst, sym, ◌∙◌}
-use Rattle.rc_rel.specs.declared.entry.Entry.{Entry}
-use Rattle.rc_rel.specs.declared.entry.Step.{Step}
-use Rattle.rc_store.specs.StepLaws.{no_reply_given}
-use Rattle.rc_store.specs.Store.{IsFinished, StoreSeen, one_step}
+use Rattle.rc_store.proofs.Imports.{Entry, Step, no_reply_given, IsFinished, StoreSeen, one_step}
 use Rattle.rc_store.proofs.store.Store.finish.Goals as goal
 
 pub returns-in-Ok-clause-ok : goal.returns-in-Ok-clause-ok

@@ -1,5 +1,4 @@
-use Rattle.std.proofs.Common.{refl}
-use Rattle.rc_store.specs.StepLaws.{reverted_at_rest, reverted_of_row}
+use Rattle.rc_store.proofs.Imports.{refl, reverted_at_rest, reverted_of_row}
 use Rattle.rc_store.proofs.store.Store.give_back.Goals as goal
 
 pub release_all-requires-clause-pass : goal.release_all-requires-clause-pass

@@ -1,6 +1,5 @@
 use Rattle.std.proofs.Common.{ap, ◌∙◌}
-use Rattle.rc_rel.specs.HistoryLaws.{calls-with_replies}
-use Rattle.rc_store.specs.Running.{calls_of}
+use Rattle.rc_store.proofs.Imports.{calls-with_replies, calls_of}
 use Rattle.rc_store.proofs.store.Store.hold_all.Goals as goal
 
 pub returns-in-Ok-clause-calls : goal.returns-in-Ok-clause-calls

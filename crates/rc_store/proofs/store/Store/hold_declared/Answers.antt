@@ -1,16 +1,5 @@
 use Rattle.std.proofs.Common.{◌≡◌, List, ap, false, refl, subst, sym, ◌∙◌}
-use Rattle.rc_spec.specs.Locks.{StripeLock}
-use Rattle.rc_plan.specs.Compiled.{IsCompiled, SpecWithPlans}
-use Rattle.rc_plan.specs.Turns.{with_plans}
-use Rattle.rc_multi.specs.GroupLocks.{group_locks}
-use Rattle.rc_row.specs.Passes.{PassSeen, RowSeen, compiled_of}
-use Rattle.rc_store.specs.Busy.{IsLockBusy}
-use Rattle.rc_store.specs.GroupLaws.{locks_inside, locks_rise, spare_on}
-use Rattle.rc_store.specs.OpenGroupLaws.{rest_unchanged}
-use Rattle.rc_store.specs.OpenGroups.{HasHeldDeclared, declared_locks}
-use Rattle.rc_store.specs.Runs.{IsStoppedBy}
-use Rattle.rc_store.specs.StepLaws.{since_so, stopped_before}
-use Rattle.rc_store.specs.Store.{StoreSeen}
+use Rattle.rc_store.proofs.Imports.{StripeLock, IsCompiled, SpecWithPlans, with_plans, group_locks, PassSeen, RowSeen, compiled_of, IsLockBusy, locks_inside, locks_rise, spare_on, rest_unchanged, HasHeldDeclared, declared_locks, IsStoppedBy, since_so, stopped_before, StoreSeen}
 use Rattle.rc_store.proofs.store.Store.hold_declared.Given.{Over}
 use Rattle.rc_store.proofs.store.Store.hold_declared.Goals.{After-deref}
 use Rattle.rc_store.proofs.store.Store.hold_declared.Goals as goal

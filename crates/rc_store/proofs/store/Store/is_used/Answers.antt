@@ -1,17 +1,5 @@
 use Rattle.std.proofs.Common.{◌≡◌, ◌<◌, ◌≤◌, ℕ, List, length, ap, refl, subst, sym, ◌∙◌}
-use Rattle.std.proofs.lemmas.Bool.{false≢true}
-use Rattle.std.proofs.lemmas.List.{take_all}
-use Rattle.rc_spec.specs.declared.call.Call.{Call}
-use Rattle.rc_plan.specs.Compiled.{SpecWithPlans, plan_at}
-use Rattle.rc_core.specs.Passes.{IsOfClassLocked}
-use Rattle.rc_multi.specs.GroupLocks.{HasOperation}
-use Rattle.rc_multi.specs.Laws.{IsUsedBy}
-use Rattle.rc_row.specs.Passes.{compiled_of}
-use Rattle.rc_store.specs.OpenGroupLaws.{call_known, calls_counted}
-use Rattle.rc_store.specs.ReleaseLaws.{call_in, none_used_more}
-use Rattle.rc_store.specs.Running.{calls_of}
-use Rattle.rc_store.specs.RunningInside.{steps_in}
-use Rattle.rc_store.specs.Store.{StoreSeen}
+use Rattle.rc_store.proofs.Imports.{false≢true, take_all, Call, SpecWithPlans, plan_at, IsOfClassLocked, HasOperation, IsUsedBy, compiled_of, call_known, calls_counted, call_in, none_used_more, calls_of, steps_in, StoreSeen}
 use Rattle.rc_store.proofs.store.Store.is_used.Given.{Over}
 use Rattle.rc_store.proofs.store.Store.is_used.Goals.{After-call}
 use Rattle.rc_store.proofs.store.Store.is_used.Goals as goal

@@ -1,8 +1,5 @@
 use Rattle.std.proofs.Common.{◌<◌, length, rules}
-use Rattle.rc_row.specs.Passes.{core_of}
-use Rattle.rc_store.specs.OpenGroupLaws.{opened_on}
-use Rattle.rc_store.specs.OpenGroups.{open_group}
-use Rattle.rc_store.specs.RunningInside.{steps_in}
+use Rattle.rc_store.proofs.Imports.{core_of, opened_on, open_group, steps_in}
 use Rattle.rc_store.proofs.store.Store.open_group.Goals as goal
 
 pub returns-in-Ok-clause-opened : goal.returns-in-Ok-clause-opened

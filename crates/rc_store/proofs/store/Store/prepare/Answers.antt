@@ -1,10 +1,6 @@
 use Rattle.std.proofs.Common.{◌<◌, ◌^◌, [], ◌∷◌, ap, arith, length, subst, sym}
-use Rattle.rc_spec.specs.Calls.{Fits}
-use Rattle.rc_row.specs.Passes.{RowSeen, compiled_of, core_of, spec_of}
-use Rattle.rc_store.specs.Prepared.{IsPrepared}
-use Rattle.rc_store.specs.Runs.{IsStoppedFor}
-use Rattle.rc_store.specs.StepLaws.{as_before, cause_before, exact_so, few_so, prepared_so, ready_so, spare_so, unrefused_so}
-use Rattle.rc_store.specs.Store.{HoldsExactly, StoreSeen, one_step}
+use Rattle.rc_store.proofs.Imports.{Fits, RowSeen, compiled_of, core_of, spec_of, IsPrepared, IsStoppedFor, as_before, cause_before, exact_so, few_so, prepared_so, ready_so, spare_so, HoldsExactly, StoreSeen, one_step}
+use Rattle.rc_store.specs.StepLaws.{unrefused_so}
 use Rattle.rc_store.proofs.store.Store.prepare.Given.{Over}
 use Rattle.rc_store.proofs.store.Store.prepare.Goals.{In-Ok}
 use Rattle.rc_store.proofs.store.Store.prepare.Goals as goal

@@ -1,6 +1,5 @@
 use Rattle.std.proofs.Common.{ap, ◌∙◌}
-use Rattle.rc_row.specs.Passes.{PassSeen, idle}
-use Rattle.rc_store.specs.StepLaws.{idle_already}
+use Rattle.rc_store.proofs.Imports.{PassSeen, idle, idle_already}
 use Rattle.rc_store.proofs.store.Store.release_all.Goals as goal
 
 pub returns-clause-value : goal.returns-clause-value

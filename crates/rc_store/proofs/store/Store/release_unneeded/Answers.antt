@@ -1,21 +1,5 @@
-use Rattle.std.specs.Prelude.{get_or, suc}
-use Rattle.std.specs.Ordering.{nat_cmp}
+use Rattle.rc_store.proofs.Imports.{get_or, suc, nat_cmp, false≢true, IsRising, Shared, StripeLock, FragmentRows, stripes_held, HeldRows, IsPassOf, OfHeld, PassSeen, compiled_of, held_without, without_stripe, held_rise, held_stripes, decide_needed, IsNeeded, holding, IsHeldAt, as_many_locks, held_at, held_so, kept_until, unchanged_at, until_inside, until_keeps, without_holding, steps_in, StoreSeen}
 use Rattle.std.proofs.Common.{◌≡◌, ◌≤◌, ℕ, List, add-one, ◌+◌, ap, length, subst, sym, ◌∙◌}
-use Rattle.std.proofs.lemmas.Bool.{false≢true}
-use Rattle.rc_tuple.specs.RisingSet.{IsRising}
-use Rattle.rc_spec.specs.declared.lock.Mode.TheVariants.{Shared}
-use Rattle.rc_spec.specs.Locks.{StripeLock}
-use Rattle.rc_fragment.specs.FragmentRows.{FragmentRows}
-use Rattle.rc_machine.specs.Machine.{stripes_held}
-use Rattle.rc_row.specs.HeldRows.{HeldRows}
-use Rattle.rc_row.specs.Passes.{IsPassOf, OfHeld, PassSeen, compiled_of, held_without, without_stripe}
-use Rattle.rc_store.specs.GroupLaws.{held_rise}
-use Rattle.rc_store.specs.Lending.{held_stripes}
-use Rattle.rc_store.specs.OpenGroupLaws.{decide_needed}
-use Rattle.rc_store.specs.OpenGroups.{IsNeeded, holding}
-use Rattle.rc_store.specs.ReleaseLaws.{IsHeldAt, as_many_locks, held_at, held_so, kept_until, unchanged_at, until_inside, until_keeps, without_holding}
-use Rattle.rc_store.specs.RunningInside.{steps_in}
-use Rattle.rc_store.specs.Store.{StoreSeen}
 use Rattle.rc_store.proofs.store.Store.release_unneeded.Given.{Over}
 use Rattle.rc_store.proofs.store.Store.release_unneeded.Goals.{After-held_agrees, After-is_needed, then-not-is_needed, else-not-is_needed}
 use Rattle.rc_store.proofs.store.Store.release_unneeded.Goals as goal

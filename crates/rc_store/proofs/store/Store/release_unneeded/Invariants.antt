@@ -1,9 +1,5 @@
 use Rattle.std.proofs.Common.{◌≡◌}
-use Rattle.rc_row.specs.Passes.{IsPassOf, compiled_of}
-use Rattle.rc_store.specs.OpenGroupLaws.{decide_needed}
-use Rattle.rc_store.specs.OpenGroups.{IsNeeded, holding}
-use Rattle.rc_store.specs.ReleaseLaws.{kept_until}
-use Rattle.rc_store.specs.RunningInside.{steps_in}
+use Rattle.rc_store.proofs.Imports.{IsPassOf, compiled_of, decide_needed, IsNeeded, holding, kept_until, steps_in}
 use Rattle.rc_store.proofs.store.Store.release_unneeded.Given as goal
 
 abbrev pub invariant-loop-lock : goal.invariant-loop-lock

@@ -1,7 +1,5 @@
 use Rattle.std.proofs.Common.{◌≡◌, ◌≤◌, refl, sym, subst, ◌∙◌}
-use Rattle.rc_store.specs.Closed.{HasOneHistory}
-use Rattle.rc_store.specs.ClosedInside.{closed_seen}
-use Rattle.rc_store.specs.ResumedLaws.{closed_again, goes_on_from, journal_again, journal_has_passes, many_back, many_ended, resumed_so, room_again, table_again}
+use Rattle.rc_store.proofs.Imports.{HasOneHistory, closed_seen, closed_again, goes_on_from, journal_again, journal_has_passes, many_back, many_ended, resumed_so, room_again, table_again}
 use Rattle.rc_store.proofs.store.Store.resume.Given as given
 use Rattle.rc_store.proofs.store.Store.resume.Goals as goal
 

@@ -1,5 +1,4 @@
-use Rattle.rc_store.specs.StepLaws.{call_made, reply_given}
-use Rattle.rc_store.specs.Store.{receipt_at}
+use Rattle.rc_store.proofs.Imports.{call_made, reply_given, receipt_at}
 use Rattle.rc_store.proofs.store.Store.try_call_into.Goals as goal
 
 pub returns-clause-made : goal.returns-clause-made

@@ -1,7 +1,5 @@
 use Rattle.std.proofs.Common.{◌≡◌, ℕ, sym, ap, ◌∙◌}
-use Rattle.std.proofs.lemmas.Bool.{eqb-true, eq-eqb}
-use Rattle.rc_tuple.specs.ColSet.{columns_of, mask_of}
-use Rattle.rc_tuple.specs.ColSetLaws.{mask_of-columns_of}
+use Rattle.rc_tuple.proofs.Imports.{eqb-true, eq-eqb, columns_of, mask_of, mask_of-columns_of}
 use Rattle.rc_tuple.proofs.col_set.ColSet.equals.Goals as goal
 
 same_masks : (a b : ℕ) → columns_of a ≡ columns_of b → mask_of (columns_of a) ≡ a → mask_of (columns_of b) ≡ b → a ≡ b

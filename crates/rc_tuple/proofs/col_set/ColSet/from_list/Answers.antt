@@ -1,9 +1,5 @@
 use Rattle.std.proofs.Common.{get_or, ap, sym, subst, ◌∙◌}
-use Rattle.std.specs.Ordering.{nat_cmp}
-use Rattle.rc_tuple.specs.RisingSet.{put}
-use Rattle.rc_tuple.specs.RisingSetLaws.{get_or_in, nat_order, gather_next}
-use Rattle.rc_tuple.specs.ColSet.{IsColSet}
-use Rattle.rc_tuple.specs.ColSetLaws.{IsColSet-none}
+use Rattle.rc_tuple.proofs.Imports.{nat_cmp, put, get_or_in, nat_order, gather_next, IsColSet, IsColSet-none}
 use Rattle.rc_tuple.proofs.col_set.ColSet.from_list.Goals as goal
 
 pub loop-col-init : goal.loop-col-init

@@ -1,7 +1,5 @@
 use Rattle.std.proofs.Common.{◌≡◌, take}
-use Rattle.std.specs.Ordering.{nat_cmp}
-use Rattle.rc_tuple.specs.RisingSet.{gather}
-use Rattle.rc_tuple.specs.ColSet.{IsColSet}
+use Rattle.rc_tuple.proofs.Imports.{nat_cmp, gather, IsColSet}
 use Rattle.rc_tuple.proofs.col_set.ColSet.from_list.Given as goal
 
 abbrev pub invariant-loop-col : goal.invariant-loop-col

@@ -1,7 +1,5 @@
 use Rattle.std.proofs.Common.{sym, ap, ◌∙◌}
-use Rattle.std.proofs.lemmas.Bool.{le-ltb}
-use Rattle.rc_tuple.specs.ColSet.{has}
-use Rattle.rc_tuple.specs.ColSetLaws.{has-columns_of_shifted, has_above, IsColSet-from_mask}
+use Rattle.rc_tuple.proofs.Imports.{le-ltb, has, has-columns_of_shifted, has_above, IsColSet-from_mask}
 use Rattle.rc_tuple.proofs.col_set.ColSet.has.Goals as goal
 
 pub returns-then-col-lt-MAX_COLS-clause-found : goal.returns-then-col-lt-MAX_COLS-clause-found

@@ -1,6 +1,5 @@
 use Rattle.std.proofs.Common.{ap, ◌∙◌}
-use Rattle.rc_tuple.specs.ColSet.{is_within}
-use Rattle.rc_tuple.specs.ColSetLaws.{within_none}
+use Rattle.rc_tuple.proofs.Imports.{is_within, within_none}
 use Rattle.rc_tuple.proofs.col_set.ColSet.is_empty.Goals as goal
 
 pub returns : goal.returns

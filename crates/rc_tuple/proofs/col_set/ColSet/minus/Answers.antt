@@ -1,5 +1,4 @@
-use Rattle.std.proofs.Common.{arith}
-use Rattle.rc_tuple.specs.ColSetLaws.{columns_of-minus, IsColSet-columns_of}
+use Rattle.rc_tuple.proofs.Imports.{arith, columns_of-minus, IsColSet-columns_of}
 use Rattle.rc_tuple.proofs.col_set.ColSet.minus.Goals as goal
 
 pub returns-clause-value : goal.returns-clause-value

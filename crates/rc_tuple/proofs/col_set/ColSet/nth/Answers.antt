@@ -1,6 +1,5 @@
 use Rattle.std.proofs.Common.{◌≡◌, ◌≤◌, sym, ap, arith, ◌∙◌}
-use Rattle.rc_tuple.specs.ColSet.{rank}
-use Rattle.rc_tuple.specs.ColSetLaws.{slice_get-at_rank, slice_get-past_rank, IsColSet-from_mask}
+use Rattle.rc_tuple.proofs.Imports.{rank, slice_get-at_rank, slice_get-past_rank, IsColSet-from_mask}
 use Rattle.rc_tuple.proofs.col_set.ColSet.nth.Goals as goal
 
 pub returns-then-before-place-clause-value : goal.returns-then-before-place-clause-value

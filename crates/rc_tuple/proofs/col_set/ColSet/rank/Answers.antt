@@ -1,6 +1,5 @@
 use Rattle.std.proofs.Common.{◌≤◌, ◌∙◌, ◌-◌, ◌^◌, ap, subst, arith, sym, bit_and, count_ones}
-use Rattle.std.proofs.lemmas.Nat.{one_shl}
-use Rattle.rc_tuple.specs.ColSetLaws.{IsColSet-from_mask, rank-from_mask, rank-le}
+use Rattle.rc_tuple.proofs.Imports.{one_shl, IsColSet-from_mask, rank-from_mask, rank-le}
 use Rattle.rc_tuple.proofs.col_set.ColSet.rank.Goals as goal
 
 pub returns-clause-value : goal.returns-clause-value

@@ -1,7 +1,5 @@
 use Rattle.std.proofs.Common.{◌∙◌, ap}
-use Rattle.std.specs.List.{list_all, zip}
-use Rattle.rc_tuple.specs.Tuple.{same_at}
-use Rattle.rc_tuple.specs.TupleLaws.{agree_on_zip}
+use Rattle.rc_tuple.proofs.Imports.{list_all, zip, same_at, agree_on_zip}
 use Rattle.rc_tuple.proofs.tuple.Tuple.agrees_on.Goals as goal
 
 pub returns : goal.returns

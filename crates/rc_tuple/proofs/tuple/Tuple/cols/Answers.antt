@@ -1,8 +1,5 @@
 use Rattle.std.proofs.Common.{sym, ◌∙◌, ap, subst}
-use Rattle.std.specs.Ordering.{nat_cmp}
-use Rattle.rc_tuple.specs.RisingSet.{gather}
-use Rattle.rc_tuple.specs.RisingSetLaws.{nat_order, gather-rising}
-use Rattle.rc_tuple.specs.Tuple.{IsTuple, cols_of}
+use Rattle.rc_tuple.proofs.Imports.{nat_cmp, gather, nat_order, gather-rising, IsTuple, cols_of}
 use Rattle.rc_tuple.proofs.tuple.Tuple.cols.Goals as goal
 
 pub columns_of-requires : goal.columns_of-requires

@@ -1,7 +1,5 @@
 use Rattle.std.proofs.Common.{◌∙◌, ap, subst}
-use Rattle.std.specs.List.{list_all}
-use Rattle.rc_tuple.specs.Tuple.{IsTuple, has_pair}
-use Rattle.rc_tuple.specs.TupleLaws.{matches_has_pairs}
+use Rattle.rc_tuple.proofs.Imports.{list_all, IsTuple, has_pair, matches_has_pairs}
 use Rattle.rc_tuple.proofs.tuple.Tuple.matches.Goals as goal
 
 pub returns : goal.returns

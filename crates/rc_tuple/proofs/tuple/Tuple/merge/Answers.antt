@@ -1,7 +1,5 @@
 use Rattle.std.proofs.Common.{◌≡◌, ◌++◌, sym, ◌∙◌, ap, subst}
-use Rattle.rc_tuple.specs.RisingSet.{gather}
-use Rattle.rc_tuple.specs.Tuple.{IsTuple, pair_cmp, merge}
-use Rattle.rc_tuple.specs.TupleLaws.{rising_pairs, IsTuple-merge, agree_from}
+use Rattle.rc_tuple.proofs.Imports.{gather, IsTuple, pair_cmp, merge, rising_pairs, IsTuple-merge, agree_from}
 use Rattle.rc_tuple.proofs.tuple.Tuple.merge.Goals as goal
 
 pub merged_pairs-requires : goal.merged_pairs-requires

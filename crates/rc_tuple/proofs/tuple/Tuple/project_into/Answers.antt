@@ -1,7 +1,5 @@
 use Rattle.std.proofs.Common.{◌≡◌, ◌++◌, ℕ, sym, ◌∙◌, ap, subst}
-use Rattle.rc_tuple.specs.ColSet.{has}
-use Rattle.rc_tuple.specs.Tuple.{IsTuple, project}
-use Rattle.rc_tuple.specs.TupleLaws.{IsTuple-filter}
+use Rattle.rc_tuple.proofs.Imports.{has, IsTuple, project, IsTuple-filter}
 use Rattle.rc_tuple.proofs.tuple.Tuple.project_into.Goals as goal
 
 pub invariant_of-out-2 : goal.invariant_of-out-2

@@ -1,10 +1,5 @@
 use Rattle.std.proofs.Common.{◌≡◌, ◌<◌, ◌^◌, take, sym, ◌∙◌, ap, subst, arith}
-use Rattle.std.specs.List.{zip}
-use Rattle.std.proofs.lemmas.List.{take_all}
-use Rattle.rc_tuple.specs.RisingSet.{IsRising, put}
-use Rattle.rc_tuple.specs.RisingSetLaws.{in_from_places, rising_gather}
-use Rattle.rc_tuple.specs.Tuple.{IsTuple, pair_cmp, tuple_of}
-use Rattle.rc_tuple.specs.TupleLaws.{IsTuple-tuple_of, pair_order, tuple_of_next}
+use Rattle.rc_tuple.proofs.Imports.{zip, take_all, IsRising, put, in_from_places, rising_gather, IsTuple, pair_cmp, tuple_of, IsTuple-tuple_of, pair_order, tuple_of_next}
 use Rattle.rc_tuple.proofs.tuple.Tuple.refill.Goals as goal
 
 pub put_reserved-requires-clause-rising : goal.put_reserved-requires-clause-rising

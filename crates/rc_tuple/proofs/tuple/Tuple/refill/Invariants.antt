@@ -1,6 +1,5 @@
 use Rattle.std.proofs.Common.{◌≡◌, ◌≤◌, take, length}
-use Rattle.std.specs.Vec.{vec_len, vec_capacity}
-use Rattle.rc_tuple.specs.Tuple.{tuple_of}
+use Rattle.rc_tuple.proofs.Imports.{vec_len, vec_capacity, tuple_of}
 use Rattle.rc_tuple.proofs.tuple.Tuple.refill.Given as goal
 
 abbrev pub invariant-loop-place : goal.invariant-loop-place

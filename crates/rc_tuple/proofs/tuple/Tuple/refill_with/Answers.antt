@@ -1,10 +1,5 @@
 use Rattle.std.proofs.Common.{◌≡◌, ◌<◌, ◌^◌, ◌++◌, ℕ, List, sym, ◌∙◌, ap, subst, arith}
-use Rattle.std.specs.List.{zip}
-use Rattle.rc_tuple.specs.ColSet.{has}
-use Rattle.rc_tuple.specs.RisingSet.{In}
-use Rattle.rc_tuple.specs.RisingSetLaws.{in_from_places, map_in}
-use Rattle.rc_tuple.specs.Tuple.{IsTuple, project}
-use Rattle.rc_tuple.specs.TupleLaws.{IsTuple-filter, IsTuple-merge, IsTuple-zip, cols_of-zip, in_project, rising_pairs}
+use Rattle.rc_tuple.proofs.Imports.{zip, has, In, in_from_places, map_in, IsTuple, project, IsTuple-filter, IsTuple-merge, IsTuple-zip, cols_of-zip, in_project, rising_pairs}
 use Rattle.rc_tuple.proofs.tuple.Tuple.refill_with.Goals.{After-push_projected}
 use Rattle.rc_tuple.proofs.tuple.Tuple.refill_with.Goals as goal
 

@@ -1,9 +1,6 @@
 use Rattle.std.proofs.Common.{◌≡◌, ℕ, ◌-◌, List, Option, Some, ap, sym, ◌∙◌, subst}
-use Rattle.std.proofs.lemmas.Option.{slice_get-get_or}
+use Rattle.rc_work.proofs.Imports.{slice_get-get_or, option_map, printed_lines, entry_at, part_entry, part_after}
 use Rattle.std.specs.Result.{IfOk}
-use Rattle.std.specs.Option.{option_map}
-use Rattle.rc_text.specs.Lines.{printed_lines}
-use Rattle.rc_work.specs.ReportLaws.{entry_at, part_entry, part_after}
 use Rattle.rc_work.proofs.report.Report.part.Goals as goal
 
 pub returns : goal.returns

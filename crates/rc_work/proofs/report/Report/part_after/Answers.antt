@@ -1,7 +1,5 @@
 use Rattle.std.proofs.Common.{ℕ, List, [], ◌∷◌, Some, sym, ap, ◌∙◌}
-use Rattle.std.specs.Option.{option_map}
-use Rattle.rc_text.specs.Lines.{printed_lines}
-use Rattle.rc_work.specs.ReportLaws.{final_part}
+use Rattle.rc_work.proofs.Imports.{option_map, printed_lines, final_part}
 use Rattle.rc_work.proofs.report.Report.part_after.Goals as goal
 
 pub returns-in_ok-with_feed-in-Some : goal.returns-in_ok-with_feed-in-Some

@@ -1,5 +1,4 @@
-use Rattle.std.proofs.Common.{sym}
-use Rattle.rc_work.specs.ReportLaws.{length-parts}
+use Rattle.rc_work.proofs.Imports.{sym, length-parts}
 use Rattle.rc_work.proofs.report.Report.part_count.Goals as goal
 
 pub returns : goal.returns

@@ -1,7 +1,5 @@
 use Rattle.std.proofs.Common.{◌≡◌, ◌++◌, map, take, drop}
-use Rattle.rc_text.specs.Lines.{printed_lines}
-use Rattle.rc_rel.specs.History.{StepsFit}
-use Rattle.rc_work.specs.Report.{step_line}
+use Rattle.rc_work.proofs.Imports.{printed_lines, StepsFit, step_line}
 use Rattle.rc_work.proofs.report.Report.push_steps.Given as goal
 
 abbrev pub invariant-loop-step : goal.invariant-loop-step
