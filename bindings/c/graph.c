@@ -13,7 +13,8 @@
 #include <stdlib.h>
 #include <string.h>
 
-enum { THREADS = 4, CALLS = 5000, NODES = 32, MAX_TEXT = 1 << 16 };
+/* the rows of both walks have two cells: the node at the other end, and the weight */
+enum { THREADS = 4, CALLS = 5000, NODES = 32, WIDTH = 2, MAX_TEXT = 1 << 16 };
 
 /* the operations, in the order of their names below, and their numbers in the store */
 enum { LINK, UNLINK, FIND, SUCC, PRED, OPERATIONS };
@@ -26,6 +27,7 @@ struct worker {
     pthread_t thread;
     relc_session *session;
     relc_frame frame;
+    relc_page page;
     uint64_t number, added, removed, walked;
 };
 
@@ -58,12 +60,16 @@ static uint64_t query(struct worker *worker, int op, uint64_t node)
     return worker->frame.number;
 }
 
-/* The cells of a row of the last reply. They stand in the frame until the next row is read. */
+/* The cells of a row of the last reply, whose rows are read in order. They are copied a page at a time,
+ * so that no call is made for each, and stand in the page until the next one is copied. */
 static const uint64_t *row(struct worker *worker, uint64_t at)
 {
-    worker->frame.row = at;
-    check(relc_row(worker->session, &worker->frame) == RELC_DONE, "there is such a row");
-    return worker->frame.cells;
+    relc_page *page = &worker->page;
+    if (at == 0 || at == page->row + page->rows) {
+        page->row = at;
+        check(relc_rows(worker->session, page) == RELC_DONE, "there is such a row");
+    }
+    return &page->cells[(at - page->row) * WIDTH];
 }
 
 /* Marks the nodes to which a walk comes, by `op`, SUCC or PRED; how many they are. */

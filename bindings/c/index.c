@@ -28,6 +28,7 @@ struct indexer {
     pthread_t thread;
     relc_session *session;
     relc_frame frame;
+    relc_page page;
     uint64_t number, added, dropped, found;
 };
 
@@ -72,12 +73,16 @@ static uint64_t call(struct indexer *indexer, int op, uint32_t count, uint64_t a
     return frame->number;
 }
 
-/* The cells of a row of the last reply. They stand in the frame until the next row is read. */
-static const uint64_t *row(struct indexer *indexer, uint64_t at)
+/* The cells of a row of the last reply, whose rows are read in order and have so many cells. They are copied
+ * a page at a time, so that no call is made for each, and stand in the page until the next one is copied. */
+static const uint64_t *row(struct indexer *indexer, uint64_t at, uint64_t width)
 {
-    indexer->frame.row = at;
-    check(relc_row(indexer->session, &indexer->frame) == RELC_DONE, "there is such a row");
-    return indexer->frame.cells;
+    relc_page *page = &indexer->page;
+    if (at == 0 || at == page->row + page->rows) {
+        page->row = at;
+        check(relc_rows(indexer->session, page) == RELC_DONE, "there is such a row");
+    }
+    return &page->cells[(at - page->row) * width];
 }
 
 /* the word at a position of a document: every fifth is one that all documents have */
@@ -103,7 +108,7 @@ static void drop_document(struct indexer *indexer, uint64_t number)
     uint64_t rows = call(indexer, LIST, 1, name, 0, 0);
     check(rows == WORDS, "a document has all of its words");
     for (uint64_t at = 0; at < rows; at++)
-        memcpy(listed[at], row(indexer, at), sizeof listed[at]);
+        memcpy(listed[at], row(indexer, at, 2), sizeof listed[at]);
     for (uint64_t at = 0; at < rows; at++) {
         call(indexer, DROP, 3, listed[at][0], name, listed[at][1]);
         check(indexer->frame.kind == RELC_REMOVED, "what is listed is there");
@@ -118,7 +123,7 @@ static void look_up(struct indexer *indexer, uint64_t number)
     check(indexer->frame.kind == RELC_ROWS, "the store was opened without a limit of rows");
     for (uint64_t at = 0; at < rows; at++) {
         size_t length = 0;
-        const char *name = relc_text(texts, row(indexer, at)[0], &length);
+        const char *name = relc_text(texts, row(indexer, at, 1)[0], &length);
         check(name != NULL && strncmp(name, "document-", 9) == 0, "a word leads to documents");
         indexer->found++;
     }

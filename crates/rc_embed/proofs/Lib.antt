@@ -6,6 +6,7 @@ pub mod FaultLemmas
 pub mod FrameLemmas
 pub mod FurtherLemmas
 pub mod ResumingLemmas
+pub mod EvenRowsLemmas
 pub mod RowsLemmas
 pub mod NumberLemmas
 pub mod PlanningLemmas

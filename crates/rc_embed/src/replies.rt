@@ -1,7 +1,7 @@
 //! Replies, row by row.
 
-ghost use Rattle.std.specs.Prelude.{◌≡◌, ◌≤◌, [], ◌∷◌, drop, length};
-ghost use Rattle.std.specs.List.{slice_get};
+ghost use Rattle.std.specs.Prelude.{◌≡◌, ◌<◌, ◌≤◌, ◌+◌, [], ◌∷◌, ◌++◌, drop, length, take};
+ghost use Rattle.std.specs.List.{All, slice_get};
 ghost use Rattle.rc_embed.specs.Replies.{AreCopied, IsCopied, IsCopiedAt, IsCopiedIf, rows_told, values_of};
 ghost use Rattle.rc_embed.specs.Session.{reply_of};
 
@@ -55,8 +55,42 @@ impl Session {
 }
 
 /// Copies the rows of a list from this number on, as many as there is room for, and answers how
-/// many.
+/// many. Rows of one length, which a query's are, are copied in one piece.
 fn copy_list(rows: &RowList, from: usize, out: &mut [u64]) -> usize
+    ensures { AreCopied (drop from rows.now) out.old out.new result }
+{
+    match rows.width() {
+        Some(width) if width > 0 => copy_even(rows, width, from, out),
+        _ => copy_each(rows, from, out),
+    }
+}
+
+/// Does so with rows that have so many values each.
+fn copy_even(rows: &RowList, width: usize, from: usize, out: &mut [u64]) -> usize
+    requires some { 0 < width }
+    requires even { All (λ row. length row ≡ width) rows.now }
+    ensures { AreCopied (drop from rows.now) out.old out.new result }
+{
+    if from >= rows.len() {
+        return 0;
+    }
+    let values = rows.values();
+    let count = (rows.len() - from).min(out.len() / width);
+    copy_piece(values, from * width, count * width, out);
+    count
+}
+
+/// Copies so many values, from one place on, over the first places.
+fn copy_piece(values: &[u64], start: usize, size: usize, out: &mut [u64])
+    requires within { start + size ≤ length values.now }
+    requires room { size ≤ length out.old }
+    ensures { out.new ≡ take size (drop start values.now) ++ drop size out.old }
+{
+    out[..size].copy_from_slice(&values[start..start + size]);
+}
+
+/// Copies the rows one by one.
+fn copy_each(rows: &RowList, from: usize, out: &mut [u64]) -> usize
     ensures { AreCopied (drop from rows.now) out.old out.new result }
 {
     let mut count = 0;

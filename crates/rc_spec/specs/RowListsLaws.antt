@@ -1,11 +1,13 @@
 -- Laws of rows whose values stand one behind the other.
 use Rattle.std.proofs.Common.{◌≡◌, ℕ, zero, suc, ◌+◌, ◌-◌, ◌*◌, ◌<◌, ◌≤◌, List, [], ◌∷◌, ◌++◌, get_or, length, map, take, drop, refl, sym, ap, subst, ◌∙◌, arith}
-use Rattle.std.proofs.lemmas.List.{take-append-le, drop-append-le, length-append, length-drop, take_all}
+use Rattle.std.proofs.lemmas.List.{take-append-le, take-append-drop, drop-append-le, length-append, length-drop, length-take-le, take_all}
+use Rattle.std.proofs.lemmas.List.Elements.{All-cons, All-nil}
 use Rattle.std.proofs.Math.ListN.{drop_of_length-le}
 use Rattle.std.proofs.Math.Nat.{suc-mul}
 use Rattle.std.proofs.Math.Seq.{drop-append_seam, drop-drop, take-append_seam}
-use Rattle.std.specs.List.{flat_map}
+use Rattle.std.specs.List.{All, flat_map}
 use Rattle.rc_spec.specs.RowEnds.{even_ends}
+use Rattle.rc_spec.specs.RowEndsLaws.{length-even_ends, start_even}
 use Rattle.rc_spec.specs.RowLists.{AreEnds, rows_from, rows_of_width}
 
 pub length-rows_from : (start : ℕ) (ends values : List ℕ) → length (rows_from start ends values) ≡ length ends
@@ -42,6 +44,16 @@ pub row_at : (start : ℕ) (ends values : List ℕ) (at : ℕ) → at < length e
 row_at start [] values at l = absurd (omega (arith, l))
 row_at start (end ∷ ends) values zero l = refl
 row_at start (end ∷ ends) values (suc at) l = row_at end ends values at (omega (arith, l))
+
+-- the rows one behind the other are the values
+pub rows_joined : (start : ℕ) (ends values : List ℕ) → AreEnds start ends (length values) → flat_map (λ row. row) (rows_from start ends values) ≡ drop start values
+rows_joined start [] values h = sym (drop_of_length-le values (omega (arith, h)))
+rows_joined start (end ∷ ends) values h =
+    let rise = h.0 in
+    let place : start + (end - start) ≡ end = omega (arith, rise) in
+    ap (λ l. take (end - start) (drop start values) ++ l)
+    (rows_joined end ends values h.1 ∙ sym (drop-drop (end - start) start values ∙ ap (λ n. drop n values) place))
+    ∙ take-append-drop (end - start) (drop start values)
 
 -- ---- one more row
 
@@ -85,6 +97,25 @@ rows_from-even start width (suc rows) values =
     ap (λ n. take n (drop start values) ∷ behind) wide
     ∙ ap (λ rs. take width (drop start values) ∷ rs)
     (rows_from-even (start + width) width rows values ∙ ap (rows_of_width width rows) (sym (drop-drop width start values)))
+
+pub last_even : (width rows count : ℕ) → AreEnds 0 (even_ends 0 width rows) count → rows * width ≡ count
+last_even width rows count h =
+    let here = start_even 0 width rows rows (omega arith) in
+    let end = last_end 0 (even_ends 0 width rows) count h in
+    let ends = ap (λ n. get_or (0 ∷ even_ends 0 width rows) n 0) (length-even_ends 0 width rows) in
+    omega (arith, here, end, ends)
+
+-- so many rows of one width have it
+pub even_width : (start width rows : ℕ) (values : List ℕ) → start + rows * width ≤ length values
+    → All (λ row. length row ≡ width) (rows_from start (even_ends start width rows) values)
+even_width start width zero values within = All-nil (λ row. length row ≡ width)
+even_width start width (suc rows) values within =
+    let one = suc-mul rows width in
+    let wide : start + width - start ≡ width = omega arith in
+    let behind = length-drop start values in
+    All-cons (λ row. length row ≡ width) (take (start + width - start) (drop start values)) (rows_from (start + width) (even_ends (start + width) width rows) values)
+    (length-take-le (start + width - start) (drop start values) (omega (arith, one, behind, within)) ∙ wide)
+    (even_width (start + width) width rows values (omega (arith, one, within)))
 
 -- a row of the width before so many
 pub rows_of_width-row : (rows : ℕ) (row values : List ℕ) → rows_of_width (length row) (suc rows) (row ++ values) ≡ row ∷ rows_of_width (length row) rows values

@@ -1,6 +1,6 @@
 //! Where the rows of a list end.
 
-ghost use Rattle.std.specs.Prelude.{◌≡◌, ◌<◌, ◌≤◌, ◌+◌, ◌*◌, ◌^◌, [], ◌∷◌, ◌++◌, get_or, length, IfOk, OnErr, OnOk};
+ghost use Rattle.std.specs.Prelude.{◌≡◌, ◌<◌, ◌≤◌, ◌+◌, ◌*◌, ◌^◌, [], ◌∷◌, ◌++◌, get_or, length, IfOk, IfSome, OnErr, OnOk};
 ghost use Rattle.rc_spec.specs.RowEnds.{AreInRange, ends_of, even_ends};
 
 use rc_tuple::Memory;
@@ -59,6 +59,16 @@ impl RowEnds {
         match &self.form {
             Ends::Even { rows, .. } => *rows,
             Ends::Each(ends) => ends.len(),
+        }
+    }
+
+    /// How many values each row has, where all have as many; `None` once a row of another length was added. The cost is constant.
+    pub fn width(&self) -> Option<usize>
+        ensures { IfSome result (λ width. self.now ≡ even_ends 0 width (length self.now)) }
+    {
+        match &self.form {
+            Ends::Even { width, .. } => Some(*width),
+            Ends::Each(_) => None,
         }
     }
 

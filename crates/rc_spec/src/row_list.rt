@@ -1,6 +1,7 @@
 //! Lists of rows.
 
 ghost use Rattle.std.specs.Prelude.{◌≡◌, ◌==◌, ◌↔◌, ◌<◌, ◌≤◌, ◌-◌, ◌*◌, [], ◌∷◌, ◌++◌, drop, get_or, length, option_copied, slice_get, take, None, false, IsTrue, IfOk, IfSome, OnErr, OnOk, OnSome};
+ghost use Rattle.std.specs.List.{All, flat_map};
 ghost use Rattle.smallvec.specs.SmallVec.{HasRoomFor, IsSpilled};
 ghost use Rattle.rc_spec.specs.RowLists.{rows_of_width};
 
@@ -101,6 +102,22 @@ impl RowList {
         } else {
             None
         }
+    }
+
+    /// How many values each row has, where all have as many; `None` once a row of another length was added. The cost is constant.
+    #[inline(always)]
+    pub fn width(&self) -> Option<usize>
+        ensures { IfSome result (λ width. All (λ row. length row ≡ width) self.now) }
+    {
+        self.ends.width()
+    }
+
+    /// The values of all rows, one row behind the other. The cost is constant.
+    #[inline(always)]
+    pub fn values(&self) -> &[u64]
+        ensures { result.now ≡ flat_map (λ row. row) self.now }
+    {
+        self.values.as_slice()
     }
 
     /// Adds a row at the end. Where memory is wanted the list stays. Costs the row, and memory that the rows that follow share, once

@@ -1,6 +1,6 @@
 use Rattle.std.proofs.Common.{◌<◌, length, arith}
 use Rattle.rc_embed.proofs.RowsLemmas.{one_row_more}
-use Rattle.rc_embed.proofs.replies.copy_list.Goals as goal
+use Rattle.rc_embed.proofs.replies.copy_each.Goals as goal
 
 pub loop-at-preserved : goal.loop-at-preserved
 loop-at-preserved c =
