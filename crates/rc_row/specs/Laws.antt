@@ -7,7 +7,8 @@ use Rattle.rc_row.specs.declared.law.Key.{Key}
 use Rattle.rc_row.specs.declared.law.Refusal.{Refusal}
 use Rattle.rc_row.specs.declared.law.View.{View}
 use Rattle.rc_row.specs.HeldRows.{HeldRows}
-use Rattle.rc_row.specs.Law.{Slot, compiled_by, history_by, spec_by, at_first_by, IsKept}
+use Rattle.rc_row.specs.declared.law.Standing.{Standing}
+use Rattle.rc_row.specs.Law.{Slot, compiled_by, history_by, spec_by, at_first_by, AreKnown, IsKept}
 use Rattle.rc_row.specs.PassInside.{Agrees}
 use Rattle.rc_row.specs.Run.{HasMoment, events_of, refusals_in}
 
@@ -33,6 +34,12 @@ abbrev pub HeldAreOfTheState : Type 0
 HeldAreOfTheState = (key : Key) (s : State Slot View) (kept : IsKept key s) (id number : ℕ) (me : Me Slot View) (held : List HeldRows)
     → get_elem? s.views id ≡ some me.0 → Agrees number me held
     → (h : HeldRows) → In h held → h.fragment.taken ≡ fragment_of (spec_by key) (replay (spec_by key) kept.core.history) h.stripe
+
+-- At every moment all that was told to the passes of any seat are beginnings of one history, that of the state which is shown: so of what any
+-- two passes were told of, one begins the other, and two receipts at one place are one.
+abbrev pub KnownAreBeginnings : Type 0
+KnownAreBeginnings = (key : Key) (s : State Slot View) (kept : IsKept key s) (id : ℕ) (v : View) → get_elem? s.views id ≡ some v
+    → (pass : Standing) → In pass v.passes → AreKnown kept.core.history pass.known
 
 -- at no moment do passes wait for each other in a circle
 abbrev pub NoCircleIsShown : Type 0

@@ -8,10 +8,13 @@ use mathlib.Core.Option.{some}
 use Rattle.rc_row.specs.declared.law.Key.{Key}
 use Rattle.rc_row.specs.declared.law.Standing.{Standing}
 use Rattle.rc_row.specs.declared.law.View.{View}
-use Rattle.rc_row.specs.Law.{Slot, spec_by, pass_view, standing_of, AreSeatedAt, has_pass, IsKept}
+use Rattle.rc_rel.specs.declared.entry.Entry.{Entry}
+use Rattle.rc_row.specs.declared.law.Refusal.{Refusal}
+use Rattle.rc_row.specs.Run.{refusals_in}
+use Rattle.rc_row.specs.Law.{Slot, at_first_by, compiled_by, spec_by, pass_view, standing_of, AreKnown, AreSeatedAt, AreTold, has_pass, IsKept}
 use Rattle.rc_row.specs.RunLaws.{begins_with, good_of, refusals_have_moments, run_allowed, run_leads}
 use Rattle.rc_row.specs.HeldRows.{HeldRows}
-use Rattle.rc_row.specs.Laws.{HeldAreOfTheState, NoCircleIsShown, OneStateIsShown, RefusalsHaveMoments, RowsAreRuns}
+use Rattle.rc_row.specs.Laws.{HeldAreOfTheState, KnownAreBeginnings, NoCircleIsShown, OneStateIsShown, RefusalsHaveMoments, RowsAreRuns}
 use Rattle.rc_row.specs.Passes.{holds_taken}
 
 -- a pass of a view is the same in each state that the view shows
@@ -57,6 +60,15 @@ held_of_the_state key s kept id number me held at agrees h m =
     let its = (kept.views id (pass_view a) (at ∙ ap some agrees.view_is)).passes.0.0 in
     ((good_of key s kept).passes a.core.number a.core its).rows (hold h.stripe h.mode h.fragment.taken)
     (subst (In (hold h.stripe h.mode h.fragment.taken)) agrees.taken (taken_in held h m))
+
+told_among : (history : List Entry) (refusals : ℕ → List Refusal) (passes : List Standing) → AreTold history refusals passes → (pass : Standing) → In pass passes → AreKnown history pass.known
+told_among history refusals [] told pass m = absurd m
+told_among history refusals (s ∷ passes) told pass (inl e) = subst (λ (x : Standing). AreKnown history x.known) (sym e) told.0.known
+told_among history refusals (s ∷ passes) told pass (inr m) = told_among history refusals passes told.1 pass m
+
+pub known_are_beginnings : KnownAreBeginnings
+known_are_beginnings key s kept id v at pass m =
+    told_among kept.core.history (refusals_in (compiled_by key) (at_first_by key) kept.run) v.passes (kept.views id v at).histories pass m
 
 pub no_circle_shown : NoCircleIsShown
 no_circle_shown key s kept passes circle = no_circle (spec_by key) kept.core passes (good_of key s kept) circle

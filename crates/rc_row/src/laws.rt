@@ -1,6 +1,6 @@
 //! What is true of words, slots and views at every moment. The proofs stand in `specs/`.
 
-ghost use Rattle.rc_row.specs.Laws.{HeldAreOfTheState, NoCircleIsShown, OneStateIsShown, RefusalsHaveMoments, RowsAreRuns};
+ghost use Rattle.rc_row.specs.Laws.{HeldAreOfTheState, KnownAreBeginnings, NoCircleIsShown, OneStateIsShown, RefusalsHaveMoments, RowsAreRuns};
 ghost use Rattle.rc_row.specs.EventLaws.{LocksAreEvents, StepsAreEvents};
 
 /// Words, slots and views show one state of the core.
@@ -26,6 +26,11 @@ pub fn refusals_have_moments()
 /// The fragments that a pass holds have, as it took them, the rows that the history leaves on their stripes.
 pub fn held_are_of_the_state()
     ensures { HeldAreOfTheState }
+{}
+
+/// All that passes were told of are beginnings of the one history that is shown.
+pub fn known_are_beginnings()
+    ensures { KnownAreBeginnings }
 {}
 
 /// A step that changes a pass as an allowed event does is that event.

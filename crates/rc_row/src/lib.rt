@@ -28,8 +28,8 @@ pub use history::History;
 pub use keeping::Keeping;
 pub use law::{Key, Law, Refusal, Standing, View};
 pub use laws::{
-    held_are_of_the_state, locks_are_events, no_circle_is_shown, one_state_is_shown,
-    refusals_have_moments, rows_are_runs, steps_are_events,
+    held_are_of_the_state, known_are_beginnings, locks_are_events, no_circle_is_shown,
+    one_state_is_shown, refusals_have_moments, rows_are_runs, steps_are_events,
 };
 pub use pass::{Note, Pass};
 pub use row::Row;

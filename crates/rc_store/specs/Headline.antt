@@ -12,9 +12,12 @@
 --   receipts       rc_store: Store (HasMadeEntry, HasMade, HasMadeGroup, IsAsBefore), Receipts (how a pass was told); rc_row: Passes (HasLookedAt, with_note)
 --   the end        rc_store: Closed (HasClosed, Leaves)
 use Rattle.std.specs.Prelude.{◌≡◌, ℕ, List, [], ◌∷◌, ◌++◌, All, Some, length}
-use Rattle.rc_store.specs.Imports.{slice_get, In, Satisfies, Spec, Entry, Step, AreLegalFrom, IsPrefix, after_steps, own_placed, replay, next_of, IsGoodHistory, PassState, PassSeen, core_of, spec_of}
+use Rattle.rc_store.specs.Imports.{slice_get, In, Satisfies, Spec, Entry, Step, AreLegalFrom, IsPrefix, after_steps, own_placed, replay, next_of, IsGoodHistory, PassState, PassSeen, core_of, spec_of, Call, Reply, with_replies}
 use Rattle.rc_store.specs.Closed.{ClosedSeen, HasClosed}
-use Rattle.rc_store.specs.Store.{HasMadeEntry, StoreSeen}
+use Rattle.rc_store.specs.declared.receipt.GroupReceipt.{GroupReceipt}
+use Rattle.rc_store.specs.declared.receipt.Receipt.{Receipt}
+use Rattle.rc_store.specs.Receipts.{TellingGoesOn}
+use Rattle.rc_store.specs.Store.{HasMade, HasMadeEntry, HasMadeGroup, StoreSeen, one_step}
 
 -- ---- one receipt
 
@@ -60,6 +63,13 @@ pub record AreOneHistory : Type 0 where
       → (k : ℕ) (pass : PassSeen) → slice_get passes k ≡ Some pass
       → (steps : List Step) (old new : PassSeen) (place : ℕ) (r : IsReceipt store steps old new place) → In (history_of r.at) pass.standing.known
       → IsInHistory h.history (history_of r.at) (next_of (core_of old) steps) place
+  -- a pass is told of each of its receipts, stays told whatever a call leaves, and is told by a note of all that the note's pass was told of
+  pub telling : TellingGoesOn
+  -- what calls and groups answer are such receipts
+  pub calls : (store : StoreSeen) (call : Call) (reply : Reply) (old new : PassSeen) (receipt : Receipt)
+      → HasMade store call reply old new receipt → IsReceipt store (one_step call reply) old new receipt.place
+  pub groups : (store : StoreSeen) (calls : List Call) (replies : List Reply) (old new : PassSeen) (receipt : GroupReceipt)
+      → HasMadeGroup store calls replies old new receipt → IsReceipt store (with_replies calls replies) old new receipt.place
 
 abbrev pub ReceiptsMeanOneHistory : Type 0
 ReceiptsMeanOneHistory = AreOneHistory

@@ -1,12 +1,12 @@
 -- The headline of a store, from its laws.
 use Rattle.std.specs.Prelude.{◌≡◌, ℕ, List, Some}
-use Rattle.rc_store.specs.Imports.{slice_get, In, in_contains, Entry, Step, IsPrefix, own_placed, replay, replay_in_states, states_satisfy, PassState, next_of, PassSeen, core_of, spec_of}
+use Rattle.rc_store.specs.Imports.{slice_get, In, in_contains, Entry, Step, IsPrefix, own_placed, replay, replay_in_states, states_satisfy, PassState, next_of, PassSeen, core_of, spec_of, with_replies}
 use Rattle.std.proofs.Common.{sym, ap, ◌∙◌}
 use Rattle.std.proofs.lemmas.List.Elements.{All-contains}
 use Rattle.rc_store.specs.Closed.{ClosedSeen, HasClosed}
 use Rattle.rc_store.specs.Headline.{IsInHistory, IsReceipt, ReceiptsMeanOneHistory, history_of}
-use Rattle.rc_store.specs.ReceiptLaws.{begins_closed, entries_are_plain, there_within}
-use Rattle.rc_store.specs.Store.{HasMadeEntry, StoreSeen}
+use Rattle.rc_store.specs.ReceiptLaws.{begins_closed, entries_are_plain, telling_goes_on, there_within}
+use Rattle.rc_store.specs.Store.{HasMadeEntry, StoreSeen, one_step}
 
 receipt_is : (store : StoreSeen) (steps : List Step) (old new : PassSeen) (place nth : ℕ) → HasMadeEntry store steps old new place nth → IsReceipt store steps old new place
 receipt_is store steps old new place nth made = record {
@@ -40,4 +40,11 @@ in_closed store passes closed h k pass is steps old new place r m =
     record { begins = begins; there = there_within h.history r.at.before (next_of (core_of old) steps) place r.at.place_is begins }
 
 pub receipts_mean_one_history : ReceiptsMeanOneHistory
-receipts_mean_one_history = record { receipts = receipt_is; later = goes_on; closed = in_closed }
+receipts_mean_one_history = record {
+  receipts = receipt_is;
+  later = goes_on;
+  closed = in_closed;
+  telling = telling_goes_on;
+  calls = λ store call reply old new receipt made. receipt_is store (one_step call reply) old new receipt.place receipt.nth made.entry;
+  groups = λ store calls replies old new receipt made. receipt_is store (with_replies calls replies) old new receipt.place receipt.nth made.entry;
+}
