@@ -1,5 +1,5 @@
 -- The events: when each is allowed, and the state after it.
-use Rattle.std.specs.Prelude.{◌≡◌, ◌≢◌, ℕ, ◌<◌, ◌≤◌, ◌⊎◌, true, false, List, [], ◌∷◌, ◌++◌, ◌==◌, not, filter, map, length, set, replicate, Option, Some, None}
+use Rattle.std.specs.Prelude.{◌≡◌, ◌≢◌, ℕ, ◌<◌, ◌≤◌, ◌⊎◌, true, false, List, [], ◌∷◌, ◌++◌, ◌==◌, not, filter, map, length, set, replicate, Some}
 use Rattle.rc_core.specs.Imports.{range_with_len, nat_cmp, In, put, stripe_total, SpecWithPlans, Entry}
 use Rattle.rc_core.specs.declared.state.PassState.{PassState}
 use Rattle.rc_core.specs.declared.state.Keeper.{Keeper}
@@ -106,11 +106,6 @@ after compiled c (event.Leave k p) = after_leave c k p
 after compiled c (event.Commit k e) = after_commit compiled c k e
 after compiled c (event.Unlock k p) = after_unlock c k p
 after compiled c (event.Learn k n) = after_learn c k n
-
--- a step's answer: none exactly where it isn't allowed, else the state after it
-abbrev pub IsAfter : Type 0 → CoreState → Option CoreState → Type 0
-IsAfter allowed next None = allowed → ⊥
-IsAfter allowed next (Some d) = allowed × (d ≡ next)
 
 -- ---- many events
 

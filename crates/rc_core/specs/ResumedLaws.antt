@@ -1,6 +1,6 @@
 -- A state that goes on from a history is good, and what follows it too.
-use Rattle.std.proofs.Common.{◌≡◌, ◌⊎◌, ℕ, zero, suc, ◌+◌, ◌<◌, ◌≤◌, ◌^◌, List, [], ◌∷◌, ◌++◌, map, length, Some, false, inl, inr, sym, refl, ap, ◌∙◌, subst, arith}
-use Rattle.rc_core.specs.Imports.{replicate, range_with_len, slice_get, has, In, Spec, empty_law, stripe_total, SpecWithPlans, Entry, Placed, histories_stay, own_placed, none_own, own_length, own_stands, prefix_again, prefix_same, IsPrefix}
+use Rattle.std.proofs.Common.{◌≡◌, ◌⊎◌, ℕ, zero, suc, ◌+◌, ◌<◌, ◌≤◌, ◌^◌, List, [], ◌∷◌, map, length, Some, false, inl, inr, sym, refl, ap, ◌∙◌, subst, arith}
+use Rattle.rc_core.specs.Imports.{replicate, range_with_len, slice_get, has, Spec, empty_law, stripe_total, SpecWithPlans, Entry, histories_stay, own_placed, none_own, own_length, own_stands, prefix_again, prefix_same, IsPrefix}
 use Rattle.std.proofs.lemmas.Bool.{cases_lt}
 use Rattle.std.proofs.lemmas.List.{length-map}
 use Rattle.std.proofs.lemmas.List.FromFn.{length-range_with_len}
@@ -9,9 +9,8 @@ use Rattle.rc_core.specs.declared.event.Event.{Event}
 use Rattle.rc_core.specs.declared.event.Event.TheVariants as event
 use Rattle.rc_core.specs.declared.state.CoreState.{CoreState}
 use Rattle.rc_core.specs.declared.state.Keeper.TheVariants.{Home}
-use Rattle.rc_core.specs.declared.state.PassState.{PassState}
 use Rattle.rc_core.specs.declared.state.StripeState.{StripeState}
-use Rattle.rc_core.specs.Events.{after, after_all, start}
+use Rattle.rc_core.specs.Events.{after, after_all}
 use Rattle.rc_core.specs.Good.{IsGood, IsGoodHistory, IsGoodPass, IsGoodStripe}
 use Rattle.rc_core.specs.Resumed.{EventsAddToHistory, GoesOnWithMore, MayGoOn, ResumedAreGood, ResumedRunsAreSound, StartsAreResumed, free_stripe, rested, resumed}
 use Rattle.rc_core.specs.RunLaws.{good_is_sound, runs_keep}

@@ -1,5 +1,5 @@
 -- Runs of events stay good.
-use Rattle.std.proofs.Common.{◌≡◌, ℕ, ◌<◌, List, [], ◌∷◌, length, Option, Some, None, IfSome, subst, sym, ap, ◌∙◌}
+use Rattle.std.proofs.Common.{◌≡◌, ℕ, ◌<◌, List, [], ◌∷◌, length, Some, subst, sym, ap, ◌∙◌}
 use Rattle.rc_core.specs.Imports.{slice_get, Spec, SpecWithPlans, IsCompiled, own_placed, states_satisfy}
 use Rattle.std.proofs.lemmas.Option.{slice_get-get_or}
 use Rattle.rc_core.specs.declared.state.CoreState.{CoreState}
@@ -7,7 +7,7 @@ use Rattle.rc_core.specs.declared.state.PassState.{PassState}
 use Rattle.rc_core.specs.declared.event.Event.{Event}
 use Rattle.rc_core.specs.declared.event.Event.TheVariants as event
 use Rattle.rc_core.specs.State.{no_pass, pass_at}
-use Rattle.rc_core.specs.Events.{IsAfter, IsAllowed, after, AreAllowed, after_all, start}
+use Rattle.rc_core.specs.Events.{after, AreAllowed, after_all, start}
 use Rattle.rc_core.specs.Good.{IsGoodKeeper, IsGood, IsOfHistory}
 use Rattle.rc_core.specs.Laws.{EventsKeepGoodness, IsSound, RunsAreSound}
 use Rattle.rc_core.specs.KeepsLaws.{lock_keeps, block_keeps, share_keeps, back_keeps, leave_keeps, unlock_keeps, learn_keeps}
@@ -26,12 +26,6 @@ events_keep compiled ok c good (event.Leave k p) a = leave_keeps compiled.spec c
 events_keep compiled ok c good (event.Commit k e) a = commit_keeps compiled ok c k (pass_at c.passes k) e good (pass_there c k a.0) a.1
 events_keep compiled ok c good (event.Unlock k p) a = unlock_keeps compiled.spec c k p (pass_at c.passes k) good (pass_there c k a.0.0) a.0.1 a.1
 events_keep compiled ok c good (event.Learn k n) a = learn_keeps compiled.spec c k (pass_at c.passes k) good (pass_there c k a.0) n a.1
-
--- what an event leads to is good
-pub next_is_good : (compiled : SpecWithPlans) → IsCompiled compiled.spec compiled.plans → (c : CoreState) → IsGood compiled.spec c → (x : Event)
-    → (next : Option CoreState) → IsAfter (IsAllowed compiled c x) (after compiled c x) next → IfSome next (IsGood compiled.spec)
-next_is_good compiled ok c good x None a = tt
-next_is_good compiled ok c good x (Some d) a = subst (IsGood compiled.spec) (sym a.1) (events_keep compiled ok c good x a.0)
 
 pub runs_keep : (compiled : SpecWithPlans) → IsCompiled compiled.spec compiled.plans → (c : CoreState) → IsGood compiled.spec c → (events : List Event) → AreAllowed compiled c events → IsGood compiled.spec (after_all compiled c events)
 runs_keep compiled ok c good [] a = good

@@ -3,29 +3,13 @@
 //! (PLDI 2012, two-phase locking.)
 #![tactic(auto)]
 
-mod changes;
-mod commit;
-mod commit_tests;
-mod copied;
-mod evaluation;
 mod event;
 mod laws;
-mod locks;
-mod no_more;
-mod renewal;
-mod rows;
-mod running;
-mod starting;
 mod state;
-mod stepping;
-mod stripe_changes;
-mod waiting;
 
 pub use event::Event;
 pub use laws::{
     events_keep_goodness, histories_go_on, no_circle_of_waits, own_are_of_history,
     passes_determine_state, runs_are_sound, shares_are_home, starts_are_good, states_are_small,
 };
-pub use running::{run_events, step};
 pub use state::{CoreState, Hold, Keeper, PassState, Rows, StripeState};
-pub use waiting::waits;

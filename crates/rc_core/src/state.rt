@@ -1,9 +1,8 @@
-//! The state of the core, as plain data: at run time, and in contracts.
+//! The state of the core, as plain data, of which contracts and laws speak.
 
-use crate::copied::Copied;
 use rc_rel::{Entry, Placed};
 use rc_spec::{CountedRow, Mode};
-use rc_tuple::{Memory, SmallList};
+use rc_tuple::SmallList;
 
 /// Rows of edges, each with its count.
 pub type Rows = SmallList<CountedRow>;
@@ -64,45 +63,4 @@ pub struct CoreState {
     pub stripes: SmallList<StripeState>,
     /// The passes, by number, 1 to 255.
     pub passes: SmallList<PassState>,
-}
-
-impl Copied for Hold {
-    fn copied(&self) -> Result<Self, Memory> {
-        Ok(Hold {
-            stripe: self.stripe,
-            mode: self.mode,
-            rows: self.rows.copied()?,
-        })
-    }
-}
-
-impl Copied for PassState {
-    fn copied(&self) -> Result<Self, Memory> {
-        Ok(PassState {
-            number: self.number,
-            held: self.held.copied()?,
-            turning: self.turning,
-            own: self.own.copied()?,
-            seen: self.seen,
-            wish: self.wish,
-        })
-    }
-}
-
-impl Copied for Keeper {
-    fn copied(&self) -> Result<Self, Memory> {
-        match self {
-            Keeper::Home(rows) => Ok(Keeper::Home(rows.copied()?)),
-            Keeper::Writer(pass) => Ok(Keeper::Writer(*pass)),
-        }
-    }
-}
-
-impl Copied for StripeState {
-    fn copied(&self) -> Result<Self, Memory> {
-        Ok(StripeState {
-            keeper: self.keeper.copied()?,
-            counted: self.counted.copied()?,
-        })
-    }
 }

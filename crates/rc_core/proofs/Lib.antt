@@ -1,7 +1,0 @@
-pub mod HoldLemmas
-pub mod EdgeRowLemmas
-pub mod StayLemmas
-pub mod CommitLemmas
-pub mod EvaluatesLemmas
-pub mod LockLemmas
-mod Imports
