@@ -1,21 +1,12 @@
-//! Runs cases of the libraries over accepted specifications: plans and the rules of plans, calls by their plans on an instance,
-//! calls that are stopped, and events of the core. What each answers to a text is compared with what the case says.
+//! Runs cases of the libraries over accepted specifications: plans, tested by the rules of plans, and the rows that edges keep, with
+//! the stripes on which they fall. What each answers to a text is compared with what the case says.
 #![tactic(auto)]
 
 mod checks;
-mod events;
 mod forms;
-mod lines;
-mod machine;
-mod play;
-mod printing;
 mod rows;
-mod sides;
 mod specs;
-mod states;
 mod stop;
-mod stopping;
-mod stops;
 
 use crate::forms::fill;
 use crate::stop::Stop;

@@ -1,81 +1,65 @@
-//! The rows that stand in the fragments of an instance, all of whose stripes are held.
+//! The rows that edges keep of tuples, and the stripes on which they fall.
 
-ghost use Rattle.std.specs.Prelude.{◌≡◌, ◌<◌, ◌≤◌, length};
-ghost use Rattle.rc_spec.specs.Stripes.{stripe_total};
-ghost use Rattle.rc_fragment.specs.Fragment.{edge_table};
-ghost use Rattle.rc_fragment.specs.Holder.{held_of};
-ghost use Rattle.rc_instance.specs.Instance.{holding};
-ghost use Rattle.rc_middle.specs.Open.{AreExclusive};
+ghost use Rattle.std.specs.Prelude.{◌<◌, length};
 
-use crate::printing::{push_number, push_tuple};
-use rc_fragment::{Fragment, Holder};
-use rc_instance::Instance;
-use rc_spec::{Accepted, stripe_total};
-use rc_text::push_bytes;
-use rc_tuple::{Memory, Tuple, distinct};
+use crate::stop::Stop;
+use rc_spec::{Accepted, physical_stripe};
+use rc_text::{push_bytes, push_u64};
+use rc_tuple::{ColSet, Memory, Tuple, Vals};
+use std::alloc::Global;
 
-/// How many stripes the specification has.
-pub(crate) fn stripes_of(accepted: &Accepted) -> u32
-    ensures value { result ≡ stripe_total accepted.now }
-    ensures few { stripe_total accepted.now ≤ 256 }
-{
-    stripe_total(accepted.spec())
+/// `rows`: of the tuple of each line, appends a line for each edge: its name, the values of its row, and the stripe.
+pub(crate) fn push_rows(accepted: &Accepted, lines: &str, out: &mut Vec<u8>) -> Result<(), Stop> {
+    for line in lines.lines() {
+        let tuple = tuple(*out.allocator(), line)?;
+        push_rows_of(accepted, &tuple, out)?;
+    }
+    Ok(())
 }
 
-/// The fragment of a stripe, where all are held.
-fn fragment_of<'a>(instance: &'a Instance, accepted: &Accepted, stripe: u32) -> &'a Fragment
-    requires table { (holding instance.now).table ≡ edge_table accepted.now }
-    requires open { AreExclusive (stripe_total accepted.now) (held_of (holding instance.now)) }
-    requires known { stripe < stripe_total accepted.now }
-    ensures { result.now.table ≡ edge_table accepted.now }
-{
-    instance.fragment(stripe)
-}
-
-/// Appends a line for each row of each edge on each stripe, by edges, then by stripes, then by values: the edge's name,
-/// the stripe and the row.
-pub(crate) fn push_rows(
-    accepted: &Accepted,
-    instance: &Instance,
-    out: &mut Vec<u8>,
-) -> Result<(), Memory>
-    requires table { (holding instance.now).table ≡ edge_table accepted.now }
-    requires open { AreExclusive (stripe_total accepted.now) (held_of (holding instance.now)) }
-{
-    for edge in 0..accepted.spec().edges.list().len() as u8 {
-        for stripe in 0..stripes_of(accepted) {
-            let fragment = fragment_of(instance, accepted, stripe);
-            push_rows_at(accepted, edge, stripe, fragment, out)?;
+/// The tuple with these values for the columns in their order.
+fn tuple(alloc: Global, line: &str) -> Result<Tuple, Stop> {
+    let mut cols = ColSet::empty();
+    let mut vals = Vals::new(alloc);
+    for (col, word) in line.split(' ').enumerate() {
+        if col >= 32 {
+            return Err(Stop::Line);
         }
+        cols = cols.with(col as u8);
+        vals.push(word.parse::<u64>().map_err(|_| Stop::Line)?)?;
+    }
+    if vals.list().len() != cols.len() as usize {
+        return Err(Stop::Line);
+    }
+    Ok(Tuple::new(cols, vals)?)
+}
+
+fn push_rows_of(accepted: &Accepted, tuple: &Tuple, out: &mut Vec<u8>) -> Result<(), Memory> {
+    for edge in 0..accepted.spec().edges.list().len() as u8 {
+        push_row(accepted, edge, tuple, out)?;
     }
     Ok(())
 }
 
-/// Appends a line for each row of an edge in a stripe's fragment.
-fn push_rows_at(
-    accepted: &Accepted,
-    edge: u8,
-    stripe: u32,
-    fragment: &Fragment,
-    out: &mut Vec<u8>,
-) -> Result<(), Memory>
-    requires known { edge < length accepted.now.edges }
-    requires table { fragment.now.table ≡ edge_table accepted.now }
+/// Appends the line of the edge's row of a tuple.
+fn push_row(accepted: &Accepted, edge: u8, tuple: &Tuple, out: &mut Vec<u8>) -> Result<(), Memory>
+    requires { edge < length accepted.now.edges }
 {
-    let name = accepted.spec().edge(edge).name.list();
-    let rows = distinct(fragment.rows(edge)?.into_vec());
-    for row in &rows {
-        push_row(name, stripe, row, out)?;
-    }
-    Ok(())
+    let spec = accepted.spec();
+    let row = tuple.project(spec.bound(spec.edge(edge).to))?;
+    let stripe = physical_stripe(spec, accepted.class_of(edge), &row);
+    push_bytes(out, spec.edge(edge).name.list())?;
+    push_values(&row, out)?;
+    push_bytes(out, b" on ")?;
+    push_u64(out, u64::from(stripe))?;
+    push_bytes(out, b"\n")
 }
 
-/// Appends the line of a row of the edge of this name.
-fn push_row(name: &[u8], stripe: u32, row: &Tuple, out: &mut Vec<u8>) -> Result<(), Memory> {
-    push_bytes(out, b"row ")?;
-    push_bytes(out, name)?;
-    push_number(out, u64::from(stripe))?;
-    push_bytes(out, b" ")?;
-    push_tuple(out, row)?;
-    push_bytes(out, b"\n")
+/// Appends the values of a tuple, with a space before each.
+fn push_values(tuple: &Tuple, out: &mut Vec<u8>) -> Result<(), Memory> {
+    for pair in tuple.pairs() {
+        push_bytes(out, b" ")?;
+        push_u64(out, pair.1)?;
+    }
+    Ok(())
 }

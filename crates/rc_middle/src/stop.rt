@@ -14,14 +14,10 @@ pub(crate) enum Stop {
     Input,
     /// The specification breaks a rule.
     Refused,
-    /// A name is none of the specification's.
-    Name,
     /// A line isn't one of the form.
     Line,
     /// There is more of something than the form takes.
     Many,
-    /// A stripe is held by another.
-    Held,
 }
 
 impl fmt::Display for Stop {
@@ -31,10 +27,8 @@ impl fmt::Display for Stop {
             Stop::Words => write!(f, "no such words"),
             Stop::Input => write!(f, "no such input"),
             Stop::Refused => write!(f, "not accepted"),
-            Stop::Name => write!(f, "no such name"),
             Stop::Line => write!(f, "no such line"),
             Stop::Many => write!(f, "too many"),
-            Stop::Held => write!(f, "held by another"),
         }
     }
 }

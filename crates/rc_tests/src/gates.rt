@@ -1,78 +1,25 @@
-//! Calls that wait, with gates that hold them.
+//! Calls that wait, of which a gate holds one.
 
-ghost use Rattle.std.specs.Prelude.{◌≡◌};
-ghost use Rattle.rc_row.specs.Passes.{core_of};
 ghost use Rattle.rc_store.specs.Store.{IsFree};
 
-use crate::outcome::{Outcome, tried};
-use rc_row::Pass;
-use rc_spec::{Call, fits};
+use crate::graph::compiled;
+use rc_maps::Seed;
+use rc_row::{Keeping, Pass};
+use rc_spec::{Call, Ranges, fits};
 use rc_store::{Gate, OpenGate, Point, Store, Waking};
+use rc_tuple::{Memory, Tuple};
+use std::alloc::Global;
 use std::sync::Wait;
 use std::sync::atomic::AtomicU64;
 use std::sync::atomic::Ordering::SeqCst;
+use std::test::Fail;
 use std::thread::{self, Threads, join};
 
-/// For so many turns a call is held, or tried again, at most. Each turn lets others run, so that a loaded machine doesn't
-/// run out of them.
-pub(crate) const TURNS: u32 = 2_000_000;
+/// For so many turns a call is held at most. Each turn lets others run, so that a loaded machine doesn't run out of them.
+const TURNS: u32 = 2_000_000;
 
-/// The place of a call that waits, with its gate, where it is answered.
-pub(crate) fn place<R: Wait, G: Gate>(
-    rt: &R,
-    store: &Store<Waking>,
-    pass: &mut Pass,
-    call: &Call,
-    gate: &G,
-) -> Option<u64>
-    requires { IsFree store.now pass.old }
-    ensures pass { IsFree store.now pass.new }
-    ensures number { (core_of pass.new).number ≡ (core_of pass.old).number }
-{
-    if !fits(store.compiled().accepted().spec(), call) {
-        return None;
-    }
-    let receipt = store.call(rt, pass, call, gate).ok()?;
-    Some(receipt.place)
-}
-
-// ---- what a gate is told
-
-/// Writes down the points that it is told, each as a digit: from 1 to 4 those of the pass 0, from 5 to 8 those of the pass 1.
-#[derive(Drop)]
-struct Recorder {
-    told: AtomicU64,
-}
-
-impl Gate for Recorder {
-    fn at(&self, pass: u32, point: Point) {
-        let digit: u64 = match point {
-            Point::BeforeLocks => 1,
-            Point::BeforeCommit => 2,
-            Point::AfterCommit => 3,
-            Point::Answered => 4,
-        };
-        let told = self.told.load(SeqCst);
-        self.told.store(
-            told.wrapping_mul(10)
-                .wrapping_add(u64::from(pass) * 4 + digit),
-            SeqCst,
-        );
-    }
-}
-
-/// The points that a gate is told of a call.
-pub(crate) fn points<R: Wait>(rt: &R, store: &Store<Waking>, mut pass: Pass, call: &Call) -> u64
-    requires { IsFree store.now pass }
-{
-    let gate = Recorder {
-        told: AtomicU64::new(0),
-    };
-    place(rt, store, &mut pass, call, &gate);
-    gate.told.load(SeqCst)
-}
-
-// ---- calls that are held
+/// So many entries each pass may make.
+const LIMIT: u64 = 1;
 
 /// How far two calls have come.
 #[derive(Drop)]
@@ -83,27 +30,16 @@ struct Progress {
     answered: AtomicU64,
 }
 
-impl Progress {
-    /// Neither has begun.
-    fn new() -> Progress {
-        Progress {
-            reached: AtomicU64::new(0),
-            answered: AtomicU64::new(0),
-        }
-    }
-}
-
-/// Tells how far a call has come, and holds it at a point until another has answered.
+/// Tells how far a call has come, and holds it before its commit until another has answered.
 #[derive(Drop)]
 struct HoldingGate<'a> {
     progress: &'a Progress,
-    point: Point,
 }
 
 impl<'a> Gate for HoldingGate<'a> {
     fn at(&self, _pass: u32, point: Point) {
         self.progress.reached.fetch_add(1, SeqCst);
-        if point == self.point {
+        if point == Point::BeforeCommit {
             wait_for(&self.progress.answered, 1);
         }
     }
@@ -118,6 +54,23 @@ pub(crate) fn wait_for(count: &AtomicU64, least: u64) -> bool {
         thread::yield_now();
     }
     false
+}
+
+/// The place of a call that waits, with its gate, where it is answered.
+fn place<R: Wait, G: Gate>(
+    rt: &R,
+    store: &Store<Waking>,
+    pass: &mut Pass,
+    call: &Call,
+    gate: &G,
+) -> Option<u64>
+    requires { IsFree store.now pass.old }
+{
+    if !fits(store.compiled().accepted().spec(), call) {
+        return None;
+    }
+    let receipt = store.call(rt, pass, call, gate).ok()?;
+    Some(receipt.place)
 }
 
 /// The place of a call that its gate holds.
@@ -152,7 +105,7 @@ fn other_place<R: Wait>(
 }
 
 /// The places of a call that is held before its commit, and of one that is made meanwhile.
-pub(crate) fn held_before<R: Threads + Wait + Sync>(
+fn held_before<R: Threads + Wait + Sync>(
     rt: &R,
     store: &Store<Waking>,
     held: (Pass, &Call),
@@ -162,50 +115,68 @@ pub(crate) fn held_before<R: Threads + Wait + Sync>(
     requires other { IsFree store.now other.0 }
 {
     let ((one, held), (two, other)) = (held, other);
-    let progress = Progress::new();
+    let progress = Progress {
+        reached: AtomicU64::new(0),
+        answered: AtomicU64::new(0),
+    };
     let progress = &progress;
-    let point = Point::BeforeCommit;
     join(
         rt,
-        move || held_place(rt, store, one, held, HoldingGate { progress, point }),
+        move || held_place(rt, store, one, held, HoldingGate { progress }),
         move || other_place(rt, store, two, other, progress),
     )
 }
 
-/// The place of a call that is held after its commit, and what one comes to that is made meanwhile, and again.
-pub(crate) fn held_after<R: Threads + Wait + Sync>(
-    rt: &R,
-    store: &Store<Waking>,
-    held: (Pass, &Call),
-    other: (Pass, &Call),
-) -> (Option<u64>, (Outcome, Option<u64>))
-    requires held { IsFree store.now held.0 }
-    requires other { IsFree store.now other.0 }
-{
-    let ((one, held), (two, other)) = (held, other);
-    let progress = Progress::new();
-    let progress = &progress;
-    let point = Point::AfterCommit;
-    join(
-        rt,
-        move || held_place(rt, store, one, held, HoldingGate { progress, point }),
-        move || beside_and_after(rt, store, two, other, progress),
-    )
+// ---- inserts on a new store of the graph
+
+/// A call that is to be filled.
+fn blank(alloc: Global) -> Call {
+    Call {
+        op: 0,
+        args: Tuple::empty(alloc),
+        ranges: Ranges::new(alloc),
+    }
 }
 
-/// What a call comes to while the other is held after its commit, and its place where it is made again, and waits.
-fn beside_and_after<R: Wait>(
+/// The places of an insert at the source 1, which is held, and of one of another edge at this source: on other stripes it goes by,
+/// and stands first, and on the same it waits.
+fn places<R: Threads + Wait + Sync>(
     rt: &R,
-    store: &Store<Waking>,
-    mut pass: Pass,
-    call: &Call,
-    progress: &Progress,
-) -> (Outcome, Option<u64>)
-    requires { IsFree store.now pass }
-{
-    wait_for(&progress.reached, 3);
-    let beside = tried(store, &mut pass, call);
-    progress.answered.store(1, SeqCst);
-    let after = place(rt, store, &mut pass, call, &OpenGate);
-    (beside, after)
+    alloc: Global,
+    source: u64,
+) -> Result<(Option<u64>, Option<u64>), Fail> {
+    let mut held = blank(alloc);
+    let mut other = blank(alloc);
+    fill(&mut held, &mut other, source)?;
+    places_of(rt, alloc, &held, &other)
+}
+
+/// Makes them these inserts.
+fn fill(held: &mut Call, other: &mut Call, source: u64) -> Result<(), Memory> {
+    held.args.refill(&[0, 1, 2], &[1, 2, 10])?;
+    other.args.refill(&[0, 1, 2], &[source, 3, 7])
+}
+
+/// The places of the two calls on a new store.
+fn places_of<R: Threads + Wait + Sync>(
+    rt: &R,
+    alloc: Global,
+    held: &Call,
+    other: &Call,
+) -> Result<(Option<u64>, Option<u64>), Fail> {
+    let compiled = compiled(alloc)?;
+    let (keeping, seed) = (Keeping::Counts, Seed::fixed());
+    let (store, mut passes) = Store::build(alloc, seed, compiled, 2, LIMIT, keeping, Waking)?;
+    let one = passes.remove(0);
+    let two = passes.remove(0);
+    passes.destroy_empty();
+    Ok(held_before(rt, &store, (one, held), (two, other)))
+}
+
+#[test]
+fn calls_go_by_or_wait_and_are_woken(rt: HostRuntime) -> Result<(), Fail> {
+    for (source, want) in [(2, (Some(1), Some(0))), (1, (Some(0), Some(1)))] {
+        assert_eq!(&rt; places(&rt, rt.alloc(), source)?, want);
+    }
+    Ok(())
 }

@@ -1,8 +1,9 @@
-//! Workloads through the top call, which a gate watches: a call that is held, many calls of eight threads, and generated workloads.
+//! Workloads through the top call, which a gate watches: a call that is held, also of a generated workload, and many calls of eight
+//! threads.
 
 use crate::gates::wait_for;
 use crate::graph::GRAPH;
-use crate::shared_tests::is_legal;
+use crate::judge::is_legal;
 use rc_io::{MemSink, MemSource};
 use rc_maps::Seed;
 use rc_store::{Gate, Point};
@@ -118,17 +119,8 @@ impl Watch {
 enum Workload {
     /// Of two calls of one round the first is held until the second is answered: it stands later.
     Held,
-    /// Of a group and a call of one round the group is held until the call is answered: all of it stands later.
-    HeldGroup,
-    /// Of a query and an insert of one round the query, which is made by a plan that is written, is held until the insert is
-    /// answered: it shares one stripe, and by its planned plan all that the insert may write.
-    HeldByHand,
-    /// A query of the round in which a group takes an edge out and puts it in again finds the edge.
-    BesideGroup,
     /// Calls of eight threads in all rounds are one history.
     Many,
-    /// A generated workload has one summary.
-    Generated,
     /// Threads of a generated workload run beside each other: a call is held until one of another thread is answered.
     HeldGenerated,
 }
@@ -137,20 +129,13 @@ impl Workload {
     fn words(self) -> &'static [&'static str] {
         match self {
             Workload::Held | Workload::Many => &["run"],
-            Workload::HeldGroup | Workload::BesideGroup => &["group"],
-            Workload::HeldByHand => &["hand"],
-            Workload::Generated => &["big", "7", "4000"],
             Workload::HeldGenerated => &["big", "7", "4"],
         }
     }
 
     /// Whether the gate holds its first turn.
     fn is_held(self) -> bool {
-        match self {
-            Workload::Held | Workload::HeldGroup | Workload::HeldByHand | Workload::HeldGenerated =>
-                true,
-            Workload::BesideGroup | Workload::Many | Workload::Generated => false,
-        }
+        self != Workload::Many
     }
 
     /// Adds the text that the words are given.
@@ -160,76 +145,14 @@ impl Workload {
                 push_bytes(text, GRAPH)?;
                 push_bytes(text, b"work 2\nround\n0 ins 1 2 10\n1 ins 2 5 1\nend\n")
             }
-            Workload::HeldGroup => {
-                push_bytes(text, GRAPH)?;
-                push_bytes(
-                    text,
-                    b"work 2\nround\n0 & 2\n0 ins 1 2 10\n0 ins 1 3 11\n1 ins 2 5 1\nend\n",
-                )
-            }
-            Workload::HeldByHand => {
-                push_bytes(text, TWO_PATHS)?;
-                push_bytes(text, BY_SOURCE)?;
-                push_bytes(text, b"work 2\nround\n0 succ 1\n1 ins 2 2 5\nend\n")
-            }
-            Workload::BesideGroup => {
-                push_bytes(text, GRAPH)?;
-                push_bytes(
-                    text,
-                    b"work 2\nround\n0 ins 1 2 10\nround\n0 & 2\n0 del 1 2\n0 ins 1 2 11\n",
-                )?;
-                push_bytes(text, b"1 find 1 2\nend\n")
-            }
             Workload::Many => {
                 push_bytes(text, GRAPH)?;
                 push_many_calls(text)
             }
-            Workload::Generated | Workload::HeldGenerated => Ok(()),
+            Workload::HeldGenerated => Ok(()),
         }
     }
 }
-
-/// A graph whose edges are reached by their source, and by source and target at once.
-const TWO_PATHS: &[u8] = b"relc 1
-col src num
-col dst num
-col weight num
-fd src dst -> weight
-node root
-node u src
-node w src dst weight
-node p src dst weight
-edge e1 root u hash src
-edge e2 u w list dst weight
-edge e3 root p hash src dst
-lock k1 8 src
-lock k2 2 dst
-place e1 k1
-place e2 k1
-place e3 k2
-op ins insert src dst
-op succ query src -> dst weight
-end
-";
-
-/// A plan of a query that reads the edges of its source alone. The planned one shares all stripes of the other class.
-const BY_SOURCE: &[u8] = b"plan succ
-lock k1 keyed shared
-read e1 lookup
-read e2 scan
-emit
-commit
-release k1
-";
-
-/// The report of a query that is held while another thread's insert is answered.
-const HELD_BY_HAND: &[u8] = b"journal 2
-0 1 ins 2 2 5 -> inserted
-1 0 succ 1 -> 0 rows
-final 1
-(2 2 5)
-end
-";
 
 /// The report of two calls of one round, of which the first is held.
 const HELD: &[u8] = b"journal 2
@@ -238,43 +161,6 @@ const HELD: &[u8] = b"journal 2
 final 2
 (1 2 10)
 (2 5 1)
-end
-";
-
-/// The report of a group and a call of one round, of which the group is held.
-const HELD_GROUP: &[u8] = b"journal 2
-0 1 ins 2 5 1 -> inserted
-1 0 & 2
-1 0 ins 1 2 10 -> inserted
-1 0 ins 1 3 11 -> inserted
-final 3
-(1 2 10)
-(1 3 11)
-(2 5 1)
-end
-";
-
-/// The report of a query that stands before the group of its round.
-const BEFORE_GROUP: &[u8] = b"journal 3
-0 0 ins 1 2 10 -> inserted
-1 1 find 1 2 -> 1 rows (10)
-2 0 & 2
-2 0 del 1 2 -> removed (1 2 10)
-2 0 ins 1 2 11 -> inserted
-final 1
-(1 2 11)
-end
-";
-
-/// And of one that stands behind it.
-const BEHIND_GROUP: &[u8] = b"journal 3
-0 0 ins 1 2 10 -> inserted
-1 0 & 2
-1 0 del 1 2 -> removed (1 2 10)
-1 0 ins 1 2 11 -> inserted
-2 1 find 1 2 -> 1 rows (11)
-final 1
-(1 2 11)
 end
 ";
 
@@ -316,33 +202,11 @@ fn push_call(text: &mut Vec<u8>, number: u64) -> Result<(), Memory> {
     push_bytes(text, b"\n")
 }
 
-/// The summary of `big 7 4000`, as one thread would have it.
-const SUMMARY: &[u8] = b"calls 4000
-inserted 1366
-present 649
-conflict 0
-removed 303
-absent 680
-queries 1002
-rows 10117
-many 0
-final 1063
-end
-";
-
 // ---- runs
 
 #[test]
 fn workloads_go_well(rt: HostRuntime) -> Result<(), Fail> {
-    for workload in [
-        Workload::Held,
-        Workload::HeldGroup,
-        Workload::HeldByHand,
-        Workload::BesideGroup,
-        Workload::Many,
-        Workload::Generated,
-        Workload::HeldGenerated,
-    ] {
+    for workload in [Workload::Held, Workload::Many, Workload::HeldGenerated] {
         assert!(&rt; goes_well(&rt, rt.alloc(), workload)?, "{workload:?}");
     }
     Ok(())
@@ -399,13 +263,7 @@ fn is_as_it_should(
     }
     match workload {
         Workload::Held => Ok(gate.came_in_time() && bytes.ends_with(HELD)),
-        Workload::HeldGroup => Ok(gate.came_in_time() && bytes.ends_with(HELD_GROUP)),
-        Workload::HeldByHand => Ok(gate.came_in_time() && bytes.ends_with(HELD_BY_HAND)),
-        Workload::BesideGroup => {
-            Ok(gate.saw(3) && (bytes.ends_with(BEFORE_GROUP) || bytes.ends_with(BEHIND_GROUP)))
-        }
         Workload::Many => Ok(gate.saw(CALLS) && is_run(alloc, outcome)?),
-        Workload::Generated => Ok(gate.saw(4000) && bytes == SUMMARY),
         Workload::HeldGenerated => Ok(gate.came_in_time()),
     }
 }

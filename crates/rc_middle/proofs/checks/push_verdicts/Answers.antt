@@ -1,4 +1,7 @@
-use Rattle.rc_middle.proofs.Imports.{subst, sym, arith, In, get_or_in, Hand}
+use Rattle.std.proofs.Common.{subst, sym, arith}
+use Rattle.rc_tuple.specs.RisingSet.{In}
+use Rattle.rc_tuple.specs.RisingSetLaws.{get_or_in}
+use Rattle.rc_handplan.specs.declared.hand.Hand.{Hand}
 use Rattle.rc_middle.proofs.checks.push_verdicts.Goals as goal
 use Rattle.rc_middle.proofs.checks.push_verdicts.Goals.{After-hand-item}
 

@@ -1,4 +1,0 @@
-mod OpenLemmas
-mod RelationLemmas
-mod StopLemmas
-mod Imports
