@@ -1,5 +1,6 @@
 /* Measures calls through relc.h: the mixes of mixes.h by one, two and four threads, each of which waits
- * where another is in the way. All rows of a reply are read. `sh bench/embed.sh` builds and runs it.
+ * where another is in the way. All rows of a reply are read, a page at a time. `sh bench/embed.sh`
+ * builds and runs it.
  *
  *     calls SPECIFICATION NODES CALLS [TIMES]
  *
@@ -40,20 +41,32 @@ static void ask(relc_frame *frame, const uint32_t *numbers, const struct call *c
     frame->values[2] = call->weight;
 }
 
+/* the sum of the cells of so many rows, each of which has this width */
+static uint64_t read_rows(relc_session *session, relc_page *page, uint64_t rows, uint64_t width)
+{
+    uint64_t sum = 0;
+    for (page->row = 0; page->row < rows; page->row += page->rows) {
+        WANT(relc_rows(session, page) == RELC_DONE);
+        for (uint64_t at = 0; at < page->rows * width; at++)
+            sum += page->cells[at];
+    }
+    return sum;
+}
+
 static void *work(void *of)
 {
     struct side *side = of;
     relc_frame frame = {0};
+    relc_page page;
     uint64_t read = 0;
     for (size_t at = 0; at < side->count; at++) {
         ask(&frame, side->numbers, &side->calls[at]);
         WANT(relc_call(side->waiting, side->session, &frame) == RELC_DONE);
-        if (frame.kind != RELC_ROWS && frame.kind != RELC_REMOVED)
-            continue;
-        for (frame.row = 0; frame.row < frame.number; frame.row++) {
-            WANT(relc_row(side->session, &frame) == RELC_DONE);
-            read += frame.cells[0];
-        }
+        /* a neighbour has its weight beside it, and a tuple that was removed both ends */
+        if (frame.kind == RELC_ROWS)
+            read += read_rows(side->session, &page, frame.number, 2);
+        else if (frame.kind == RELC_REMOVED)
+            read += read_rows(side->session, &page, 1, 3);
     }
     return (void *)(uintptr_t)read;
 }

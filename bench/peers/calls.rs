@@ -1,6 +1,7 @@
 //! Measures calls through this crate, and on maps under one lock: the mixes of
-//! `bench/peers/store.rs` on its graph of both directions, in the same order, by one, two and four
-//! threads, each of which waits where another is in the way. `sh bench/embed.sh` runs it.
+//! `bench/peers/store.rs` in the same order, by one, two and four threads, each of which waits where
+//! another is in the way, or, with `ONE_THREAD` in the environment, by one. `sh bench/embed.sh` runs
+//! it.
 //!
 //!     cd bindings/rust && cargo run --offline --release --example calls [NODES [CALLS]]
 //!
@@ -14,11 +15,12 @@ use std::time::Instant;
 use std::{env, thread};
 
 /// How many of a hundred calls are of successors, predecessors, inserts and removes.
-const MIXES: [[u64; 4]; 4] = [
+const MIXES: [[u64; 4]; 5] = [
     [70, 0, 20, 10],
     [35, 35, 20, 10],
     [0, 0, 50, 50],
     [45, 45, 9, 1],
+    [100, 0, 0, 0],
 ];
 
 /// So many rows a reply lists at most.
@@ -206,9 +208,13 @@ fn main() {
         .map(|word| word.parse().expect("a number"));
     let nodes: usize = words.next().unwrap_or(16);
     let each: usize = words.next().unwrap_or(1_000);
+    let counts: &[usize] = match env::var_os("ONE_THREAD") {
+        Some(_) => &[1],
+        None => &[1, 2, 4],
+    };
     for mix in MIXES {
         let [succ, pred, ins, del] = mix;
-        for threads in [1, 2, 4] {
+        for &threads in counts {
             let calls = calls_of(mix, nodes as u64, threads * each);
             let line = |how: &str, time: u128| {
                 println!("split {succ}-{pred}-{ins}-{del}, {threads}, {how}: {time} ns a call");

@@ -7,7 +7,7 @@
  * (of inserts that are begun, and their begin), few (the rows of a node that has 10) or many (of
  * one that has 210); CALLS is at most TUPLES. It
  * prints the nanoseconds and the allocations of a call, and the bytes that a tuple takes. The rows
- * of a reply are read, one call each, and that is counted too. Under callgrind only the calls are
+ * of a reply are read, a page at a time, and that is counted too. Under callgrind only the calls are
  * collected. */
 #include "relc.h"
 
@@ -54,6 +54,7 @@ static relc_session *session;
 static uint32_t ins, del, succ, find;
 
 static relc_frame frame;
+static relc_page page;
 
 static void fill(uint32_t op, uint64_t source, uint64_t target, uint64_t weight)
 {
@@ -83,8 +84,8 @@ static void ask(uint32_t op, uint64_t source, uint64_t target, uint64_t rows)
 {
     make(op, source, target, 0, RELC_ROWS);
     WANT(frame.number == rows);
-    for (frame.row = 0; frame.row < rows; frame.row++)
-        WANT(relc_row(session, &frame) == RELC_DONE);
+    for (page.row = 0; page.row < rows; page.row += page.rows)
+        WANT(relc_rows(session, &page) == RELC_DONE);
 }
 
 /* the k-th edge: sources have DEGREE targets each, which are spread */

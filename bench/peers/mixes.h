@@ -19,8 +19,9 @@
 enum operation { SUCC, PRED, INS, DEL, OPERATIONS };
 
 /* how many of a hundred calls are of each operation */
-static const uint64_t MIXES[4][OPERATIONS] = {
-    {70, 0, 20, 10}, {35, 35, 20, 10}, {0, 0, 50, 50}, {45, 45, 9, 1}};
+enum { MIX_COUNT = 5 };
+static const uint64_t MIXES[MIX_COUNT][OPERATIONS] = {
+    {70, 0, 20, 10}, {35, 35, 20, 10}, {0, 0, 50, 50}, {45, 45, 9, 1}, {100, 0, 0, 0}};
 
 struct call {
     enum operation operation;
@@ -66,12 +67,14 @@ static inline double now(void)
  * that time */
 typedef double measured(const struct call *calls, int threads, size_t each);
 
-/* a line for each mix and number of threads: what was called, and the nanoseconds */
+/* a line for each mix and number of threads, which is 1 alone with ONE_THREAD in the environment: what was called, and the
+ * nanoseconds */
 static inline void measure_mixes(measured *measure, const char *called, uint64_t nodes, size_t each)
 {
-    for (int mix = 0; mix < 4; mix++) {
+    int most = getenv("ONE_THREAD") != NULL ? 1 : 4;
+    for (int mix = 0; mix < MIX_COUNT; mix++) {
         const uint64_t *shares = MIXES[mix];
-        for (int threads = 1; threads <= 4; threads *= 2) {
+        for (int threads = 1; threads <= most; threads *= 2) {
             struct call *calls = calls_of(shares, nodes, (size_t)threads * each);
             double time = measure(calls, threads, each);
             printf("split %d-%d-%d-%d, %d, %s: %.0f ns a call\n", (int)shares[SUCC], (int)shares[PRED],

@@ -1,6 +1,6 @@
 //! A graph that threads share, written by hand for its relations and its calls: what RELC is measured against. It makes the calls
-//! of `crates/bench_store` in the same order, and its words are the same: none, or `time NODES CALLS`. The word `check` compares
-//! it with a plain list of edges. `rustc -O --edition 2021 store.rs` builds it.
+//! of `mixes.h` in the same order, by one, two and four threads, or, with `ONE_THREAD` in the environment, by one. Its words are
+//! `time NODES CALLS`, or `check`, which compares it with a plain list of edges. `rustc -O --edition 2021 store.rs` builds it.
 
 use std::collections::btree_map::{BTreeMap, Entry as Slot};
 use std::collections::HashMap;
@@ -31,7 +31,6 @@ enum Call {
     /// Adds the edge where none leads from its source to its target.
     Insert(Edge),
     Remove(u64, u64),
-    Find(u64, u64),
 }
 
 /// What a call is answered. No insert is a conflict here: where an edge has another weight it is present, as RELC answers too.
@@ -41,8 +40,6 @@ enum Reply {
     Neighbours(Vec<(u64, u64)>),
     /// How many neighbours there are, above `MAX_ROWS`.
     Many(usize),
-    /// The weight of the edge, where it is there.
-    Weights(Vec<u64>),
     Inserted,
     Present,
     Removed(Edge),
@@ -82,34 +79,22 @@ struct Counter(AtomicU64);
 
 /// A graph. A call takes its place before it gives a lock back, so that one thread which makes the calls by their places has the
 /// same replies. The lock of a source comes before that of a target.
+#[derive(Default)]
 struct Graph {
     from: Direction,
-    /// None where nobody asks for predecessors.
-    to: Option<Direction>,
+    to: Direction,
     places: Counter,
 }
 
 impl Graph {
-    fn new(subject: Subject) -> Graph {
-        Graph {
-            from: Direction::default(),
-            to: (subject == Subject::Split).then(Direction::default),
-            places: Counter::default(),
-        }
-    }
-
     /// Makes a call. It isn't inlined, as a call of a library wouldn't be.
     #[inline(never)]
     fn call(&self, call: &Call) -> Receipt {
         match *call {
             Call::Successors(source) => self.neighbours(&self.from, source),
-            Call::Predecessors(target) => {
-                let to = self.to.as_ref().expect("a graph of both directions");
-                self.neighbours(to, target)
-            }
+            Call::Predecessors(target) => self.neighbours(&self.to, target),
             Call::Insert(edge) => self.insert(edge),
             Call::Remove(source, target) => self.remove(source, target),
-            Call::Find(source, target) => self.find(source, target),
         }
     }
 
@@ -128,12 +113,9 @@ impl Graph {
             Slot::Occupied(_) => self.answer(Reply::Present),
             Slot::Vacant(slot) => {
                 slot.insert(edge.weight);
-                let _held = self.to.as_ref().map(|to| {
-                    let mut nodes = to.lock(edge.target);
-                    let ends = nodes.entry(edge.target).or_default();
-                    ends.insert(edge.source, edge.weight);
-                    nodes
-                });
+                let mut nodes = self.to.lock(edge.target);
+                let ends = nodes.entry(edge.target).or_default();
+                ends.insert(edge.source, edge.weight);
                 self.answer(Reply::Inserted)
             }
         }
@@ -144,22 +126,13 @@ impl Graph {
         let Some(weight) = take(&mut nodes, source, target) else {
             return self.answer(Reply::Absent);
         };
-        let _held = self.to.as_ref().map(|to| {
-            let mut nodes = to.lock(target);
-            take(&mut nodes, target, source);
-            nodes
-        });
+        let mut nodes = self.to.lock(target);
+        take(&mut nodes, target, source);
         self.answer(Reply::Removed(Edge {
             source,
             target,
             weight,
         }))
-    }
-
-    fn find(&self, source: u64, target: u64) -> Receipt {
-        let nodes = self.from.lock(source);
-        let weight = nodes.get(&source).and_then(|ends| ends.get(&target));
-        self.answer(Reply::Weights(weight.copied().into_iter().collect()))
     }
 
     /// The reply with the next place. Calls that meet at a lock are ordered by it, so the counter needn't order anything.
@@ -179,13 +152,6 @@ fn take(nodes: &mut Nodes, node: u64, end: u64) -> Option<u64> {
     Some(weight)
 }
 
-/// What a thread keeps of its calls.
-#[derive(Clone, Copy)]
-enum Keeping {
-    Entries,
-    Counts,
-}
-
 /// A call that was made.
 struct Entry {
     place: u64,
@@ -193,29 +159,12 @@ struct Entry {
     reply: Reply,
 }
 
-/// The calls that a thread made: how many, and where they are kept all of them.
-#[derive(Default)]
-struct Journal {
-    made: u64,
-    entries: Vec<Entry>,
-}
-
-fn make_all(graph: &Graph, calls: &[Call], keeping: Keeping) -> Journal {
-    let mut journal = Journal::default();
-    for call in calls {
+impl Entry {
+    fn of(graph: &Graph, call: &Call) -> Entry {
         let Receipt { place, reply } = graph.call(call);
-        journal.made += 1;
-        match keeping {
-            Keeping::Entries => journal.entries.push(Entry {
-                place,
-                call: *call,
-                reply,
-            }),
-            // A reply that nobody reads is made all the same.
-            Keeping::Counts => drop(black_box(reply)),
-        }
+        let call = *call;
+        Entry { place, call, reply }
     }
-    journal
 }
 
 /// Each of so many threads acts on its share of the calls, at once; what they give, added up.
@@ -236,7 +185,7 @@ fn share_out<T: Send>(
     })
 }
 
-/// The numbers by chance of `bench_store`: Marsaglia's xorshift of 64 bits.
+/// The numbers by chance of `mixes.h`: Marsaglia's xorshift of 64 bits.
 struct Random(u64);
 
 impl Random {
@@ -248,43 +197,30 @@ impl Random {
     }
 }
 
-#[derive(Clone, Copy, PartialEq, Eq)]
-enum Subject {
-    /// The graph of both directions.
-    Split,
-    /// The graph whose edges are found by their sources.
-    BySource,
-}
-
 /// Makes a call of an edge.
 type Operation = fn(Edge) -> Call;
 
-const FIND: Operation = |edge| Call::Find(edge.source, edge.target);
 const SUCCESSORS: Operation = |edge| Call::Successors(edge.source);
 const PREDECESSORS: Operation = |edge| Call::Predecessors(edge.target);
 const INSERT: Operation = Call::Insert;
 const REMOVE: Operation = |edge| Call::Remove(edge.source, edge.target);
 
 /// The operations in the order of the shares of a mix.
-const OPERATIONS: [Operation; 5] = [FIND, SUCCESSORS, PREDECESSORS, INSERT, REMOVE];
+const OPERATIONS: [Operation; 4] = [SUCCESSORS, PREDECESSORS, INSERT, REMOVE];
 
-/// How many of a hundred calls are of each operation, and the name that `bench_store` gives that.
-struct Mix(Subject, &'static str, [u64; 5]);
+/// How many of a hundred calls are of each operation.
+struct Mix([u64; 4]);
 
 const MIXES: [Mix; 5] = [
-    Mix(Subject::Split, "split 70-0-20-10", [0, 70, 0, 20, 10]),
-    Mix(Subject::Split, "split 35-35-20-10", [0, 35, 35, 20, 10]),
-    Mix(Subject::Split, "split 0-0-50-50", [0, 0, 0, 50, 50]),
-    Mix(Subject::Split, "split 45-45-9-1", [0, 45, 45, 9, 1]),
-    Mix(
-        Subject::BySource,
-        "by source finds and inserts 50-50",
-        [50, 0, 0, 50, 0],
-    ),
+    Mix([70, 0, 20, 10]),
+    Mix([35, 35, 20, 10]),
+    Mix([0, 0, 50, 50]),
+    Mix([45, 45, 9, 1]),
+    Mix([100, 0, 0, 0]),
 ];
 
 impl Mix {
-    /// Calls by chance. Those of seed 1 are the calls of `bench_store`, the first thread's first.
+    /// Calls by chance. Those of seed 1 are the calls of `mixes.h`, the first thread's first.
     fn calls(&self, seed: u64, nodes: u64, count: u32) -> Vec<Call> {
         let mut random = Random(seed);
         let one = |_| {
@@ -299,7 +235,7 @@ impl Mix {
     }
 
     fn operation(&self, mut chance: u64) -> Operation {
-        for (operation, percent) in OPERATIONS.into_iter().zip(self.2) {
+        for (operation, percent) in OPERATIONS.into_iter().zip(self.0) {
             if chance < percent {
                 return operation;
             }
@@ -310,31 +246,33 @@ impl Mix {
 }
 
 /// Measures each mix with each number of threads, each of which makes so many calls.
-fn measure_all(nodes: u64, each: u32, is_timed: bool) {
+fn measure_all(nodes: u64, each: u32) {
+    let counts: &[u32] = match env::var_os("ONE_THREAD") {
+        Some(_) => &[1],
+        None => &[1, 2, 4],
+    };
     for mix in &MIXES {
-        for (threads, crew) in [(1, "1 thread"), (2, "2 threads"), (4, "4 threads")] {
+        let [succ, pred, ins, del] = mix.0;
+        for &threads in counts {
             let calls = mix.calls(1, nodes, threads * each);
-            for (keeping, kept) in [(Keeping::Entries, "entries"), (Keeping::Counts, "counts")] {
-                let (answered, time) = measure(mix.0, &calls, threads, keeping);
-                print!("{}, {crew}, by hand, {kept}: ", mix.1);
-                if is_timed {
-                    println!("{} ns a call", time.as_nanos() / u128::from(each.max(1)));
-                } else {
-                    println!("{answered} answered");
-                }
-            }
+            let time = measure(&calls, threads).as_nanos() / u128::from(each.max(1));
+            println!("split {succ}-{pred}-{ins}-{del}, {threads}, by hand: {time} ns a call");
         }
     }
 }
 
-/// How many calls were answered, and how long that took. The calls and the graph are there before; threads begin and end in that
-/// time, and drop what they kept.
-fn measure(subject: Subject, calls: &[Call], threads: u32, keeping: Keeping) -> (u64, Duration) {
-    let graph = Graph::new(subject);
+/// How long the calls took. They and the graph are there before; threads begin and end in that time. A reply that nobody reads is
+/// made all the same.
+fn measure(calls: &[Call], threads: u32) -> Duration {
+    let graph = Graph::default();
     let begun = Instant::now();
-    let act = |calls: &[Call]| make_all(&graph, calls, keeping).made;
-    let answered = share_out(threads, calls, &act, |one, other| one + other);
-    (answered, begun.elapsed())
+    let act = |calls: &[Call]| {
+        for call in calls {
+            drop(black_box(graph.call(call)));
+        }
+    };
+    share_out(threads, calls, &act, |(), ()| ());
+    begun.elapsed()
 }
 
 /// The graph as a plain list of edges.
@@ -358,10 +296,6 @@ impl Plain {
                 Some(at) => Reply::Removed(self.0.remove(at)),
                 None => Reply::Absent,
             },
-            Call::Find(source, target) => {
-                let at = self.at(source, target);
-                Reply::Weights(at.map(|at| self.0[at].weight).into_iter().collect())
-            }
         }
     }
 
@@ -409,10 +343,10 @@ fn sorted(rows: impl Iterator<Item = (u64, u64, u64)>) -> Vec<(u64, u64, u64)> {
 
 /// Lets threads make the calls. Panics unless a plain list of edges gives the same replies to the calls by their places, and has
 /// the same edges then.
-fn compare(subject: Subject, calls: &[Call], threads: u32) {
-    let graph = Graph::new(subject);
+fn compare(calls: &[Call], threads: u32) {
+    let graph = Graph::default();
     let act = |calls: &[Call]| {
-        let entries = make_all(&graph, calls, Keeping::Entries).entries;
+        let entries: Vec<_> = calls.iter().map(|call| Entry::of(&graph, call)).collect();
         assert!(entries.is_sorted_by_key(|entry| entry.place));
         entries
     };
@@ -429,25 +363,23 @@ fn compare(subject: Subject, calls: &[Call], threads: u32) {
         assert_eq!(*reply, plain.call(call), "{call:?} at {place}");
     }
     assert_eq!(graph.from.listed(), sorted(plain.ends()));
-    if let Some(to) = &graph.to {
-        let turned = plain.ends().map(|(source, target, w)| (target, source, w));
-        assert_eq!(to.listed(), sorted(turned));
-    }
+    let turned = plain.ends().map(|(source, target, w)| (target, source, w));
+    assert_eq!(graph.to.listed(), sorted(turned));
 }
 
 /// Compares the mixes between few nodes and many, and nodes that get and lose more neighbours than a reply lists.
 fn check() {
     let mut compared = 0;
-    let mut compare_all = |subject, calls: &[Call]| {
+    let mut compare_all = |calls: &[Call]| {
         for threads in [1, 2, 4] {
-            compare(subject, calls, threads);
+            compare(calls, threads);
             compared += calls.len();
         }
     };
     for mix in &MIXES {
         for (nodes, count) in [(1, 20_000), (3, 20_000), (16, 20_000), (256, 2_000)] {
             for seed in 1..=10 {
-                compare_all(mix.0, &mix.calls(seed, nodes, count));
+                compare_all(&mix.calls(seed, nodes, count));
             }
         }
     }
@@ -465,7 +397,7 @@ fn check() {
             }
         }
     }
-    compare_all(Subject::Split, &star);
+    compare_all(&star);
     println!("{compared} calls agree");
 }
 
@@ -473,10 +405,9 @@ fn main() -> ExitCode {
     let words: Vec<String> = env::args().skip(1).collect();
     let words: Vec<&str> = words.iter().map(String::as_str).collect();
     match words[..] {
-        [] => measure_all(16, 50, false),
         ["check"] => check(),
         ["time", nodes, calls] => match (nodes.parse(), calls.parse()) {
-            (Ok(nodes), Ok(calls)) => measure_all(nodes, calls, true),
+            (Ok(nodes), Ok(calls)) => measure_all(nodes, calls),
             _ => return ExitCode::FAILURE,
         },
         _ => return ExitCode::FAILURE,
