@@ -73,6 +73,7 @@ class SpecFile:
     def __init__(self, path):
         self.definitions = {}
         self.imports = {}
+        self.passed = {}
         lines = code_lines(path.read_text().splitlines())
         for line in lines:
             self.take_import(line)
@@ -89,6 +90,8 @@ class SpecFile:
             name, _, other = item.partition(" as ")
             if name:
                 self.imports[other or name] = (where, name)
+                if line.startswith("pub "):
+                    self.passed[other or name] = (where, name)
 
     def take_block(self, lines, above):
         """Takes items that stand one below the other, each with the deeper lines behind it."""
@@ -224,7 +227,11 @@ class Reader:
             declared = where[-2] if where[-1] == "TheVariants" else where[-1]
             return self.declared(where[0], declared)
         path = "/".join(where) + ".antt"
-        return [(path, name)] if self.spec(path) and name in self.spec(path).definitions else []
+        file = self.spec(path)
+        if file and name in file.definitions:
+            return [(path, name)]
+        # (a file that only passes names on, as specs/Imports.antt, is none to read)
+        return self.imported(*file.passed[name]) if file and name in file.passed else []
 
     def declared(self, crate, name):
         if not (CRATES / crate / "src").is_dir() or name not in self.types(crate):
