@@ -44,6 +44,8 @@ compile -o "$out/wakes" "$here/c/wakes.c" "$out/librelc.a" || exit 1
 run "$out/wakes"
 compile -o "$out/patience" "$here/c/patience.c" "$out/librelc.a" || exit 1
 run "$out/patience"
+compile -o "$out/cancel" "$here/c/cancel.c" "$out/librelc.a" || exit 1
+run "$out/cancel"
 compile -o "$out/sessions" "$here/c/sessions.c" "$out/librelc.a" || exit 1
 run "$out/sessions"
 compile -o "$out/largest" "$here/c/largest.c" "$out/librelc.a" || exit 1

@@ -71,6 +71,21 @@ static int open_locks(relc_waiting *waiting)
     return 0;
 }
 
+/* No thread is cancelled (pthread_cancel) while it has a lock, is counted as a waiter or has the right of way: the others
+ * would wait for what it left, without an end. A cancellation that comes meanwhile stays pending, and ends the thread
+ * at its next point of cancellation. Answers what is to be restored. */
+static int keep_alive(void)
+{
+    int state;
+    pthread_setcancelstate(PTHREAD_CANCEL_DISABLE, &state);
+    return state;
+}
+
+static void restore(int state)
+{
+    pthread_setcancelstate(state, &state);
+}
+
 relc_waiting *relc_open_waiting(void)
 {
     relc_waiting *waiting = calloc(1, sizeof *waiting);
@@ -97,10 +112,12 @@ void relc_ring(relc_waiting *waiting)
 {
     if (atomic_load(&waiting->waiters) == 0)
         return;
+    int state = keep_alive();
     pthread_mutex_lock(&waiting->lock);
     waiting->epoch++;
     pthread_cond_broadcast(&waiting->rung);
     pthread_mutex_unlock(&waiting->lock);
+    restore(state);
 }
 
 static uint64_t now(void)
@@ -160,11 +177,13 @@ static void give_right_of_way(relc_waiting *waiting)
 static void stand_back(relc_waiting *waiting, uint64_t end)
 {
     struct timespec until = at_moment(end);
+    int state = keep_alive();
     pthread_mutex_lock(&waiting->lock);
     int slept = 0;
     while (atomic_load(&waiting->taken) != 0 && slept == 0)
         slept = pthread_cond_timedwait(&waiting->given, &waiting->lock, &until);
     pthread_mutex_unlock(&waiting->lock);
+    restore(state);
 }
 
 static unsigned epoch_of(relc_waiting *waiting)
@@ -249,9 +268,11 @@ static uint32_t ask(relc_waiting *waiting, export *asks, relc_session *session, 
         if (code != RELC_BUSY || nanoseconds == 0)
             return code;
     }
+    int state = keep_alive();
     atomic_fetch_add(&waiting->waiters, 1);
     uint32_t code = try_on(&asking);
     atomic_fetch_sub(&waiting->waiters, 1);
+    restore(state);
     return code;
 }
 
@@ -332,28 +353,59 @@ uint32_t relc_open_group_waiting_until(relc_waiting *waiting, relc_session *sess
     return begin(waiting, relc_open_group, session, frames, count, nanoseconds);
 }
 
+/* The turn of a function that takes a store: answers what its end restores. */
+static int enter(relc_waiting *waiting)
+{
+    int state = keep_alive();
+    pthread_mutex_lock(&waiting->turn);
+    return state;
+}
+
+static void leave(relc_waiting *waiting, int state)
+{
+    pthread_mutex_unlock(&waiting->turn);
+    restore(state);
+}
+
 uint32_t relc_operation_in_turn(
     relc_waiting *waiting, relc_store *store, relc_operation_frame *frame)
 {
-    pthread_mutex_lock(&waiting->turn);
+    int state = enter(waiting);
     uint32_t code = relc_operation(store, frame);
-    pthread_mutex_unlock(&waiting->turn);
+    leave(waiting, state);
+    return code;
+}
+
+uint32_t relc_shape_in_turn(relc_waiting *waiting, relc_store *store, const uint8_t *line,
+    size_t length, relc_operation_frame *frame)
+{
+    int state = enter(waiting);
+    uint32_t code = relc_shape(store, line, length, frame);
+    leave(waiting, state);
+    return code;
+}
+
+uint32_t relc_plans_in_turn(relc_waiting *waiting, relc_store *store, relc_text_page *page)
+{
+    int state = enter(waiting);
+    uint32_t code = relc_plans(store, page);
+    leave(waiting, state);
     return code;
 }
 
 uint32_t relc_open_session_in_turn(relc_waiting *waiting, relc_store *store, relc_session **session)
 {
-    pthread_mutex_lock(&waiting->turn);
+    int state = enter(waiting);
     uint32_t code = relc_open_session(store, session);
-    pthread_mutex_unlock(&waiting->turn);
+    leave(waiting, state);
     return code;
 }
 
 uint32_t relc_give_back_in_turn(relc_waiting *waiting, relc_store *store, relc_session *session)
 {
-    pthread_mutex_lock(&waiting->turn);
+    int state = enter(waiting);
     uint32_t code = relc_give_back(store, session);
-    pthread_mutex_unlock(&waiting->turn);
+    leave(waiting, state);
     relc_ring(waiting); /* of what it had prepared */
     return code;
 }

@@ -1,9 +1,11 @@
 /* relc_wait.h: calls and groups that wait, over those of relc.h that don't. Not proved: tested. One
  * relc_waiting is shared by all threads that call on one store, also where that is closed and goes on. Calls that are made, committed or
  * cancelled beside it ring it by relc_ring. What relc.h says of sessions, frames and memory holds
- * here too; a relc_waiting is used by any number of calls at a time. No thread is cancelled
- * (pthread_cancel) in one of these functions: it might leave a lock taken, and all others would
- * wait for it without an end. */
+ * here too; a relc_waiting is used by any number of calls at a time.
+ *
+ * No function of this header is a point of cancellation, and none of them waits while a thread may be cancelled: a thread
+ * that is cancelled (pthread_cancel) in one of them comes out of it first, with its answer, and ends at its next point
+ * of cancellation. A call without an end so ends no sooner for being cancelled. */
 #ifndef RELC_WAIT_H
 #define RELC_WAIT_H
 
@@ -61,10 +63,14 @@ uint32_t relc_open_group_waiting_until(relc_waiting *waiting, relc_session *sess
 
 /* The functions of relc.h that take a store, for threads that use one store's at the same time: each waits for
  * its turn, while another thread is in one of these by the same relc_waiting, which is no longer than such a
- * function takes. So a server may open a session for each connection, and give it back at its end. The last one
- * rings. Else they are as relc.h says. */
+ * function takes. So a server may open a session for each connection, look up what the connection asks, and give the
+ * session back at its end. Beside them nobody calls such a function of relc.h on this store: one that looks up reads
+ * what opening a session moves. The last one rings. Else they are as relc.h says. */
 uint32_t relc_operation_in_turn(
     relc_waiting *waiting, relc_store *store, relc_operation_frame *frame);
+uint32_t relc_shape_in_turn(relc_waiting *waiting, relc_store *store, const uint8_t *line,
+    size_t length, relc_operation_frame *frame);
+uint32_t relc_plans_in_turn(relc_waiting *waiting, relc_store *store, relc_text_page *page);
 uint32_t relc_open_session_in_turn(
     relc_waiting *waiting, relc_store *store, relc_session **session);
 uint32_t relc_give_back_in_turn(

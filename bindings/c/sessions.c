@@ -1,14 +1,16 @@
 /* Tests that more threads than a store has passes open sessions of it, call, and give them back, all at the same time,
- * and look operations up meanwhile. Prints one line, and ends with 0 where all is as it should be. */
+ * and look operations up meanwhile; and that one thread looks shapes and plans up while another one opens sessions and
+ * gives them back. Prints two lines, and ends with 0 where all is as it should be. */
 #include "relc_wait.h"
 
 #include <pthread.h>
 #include <sched.h>
+#include <stdatomic.h>
 #include <stdio.h>
 #include <stdlib.h>
 #include <string.h>
 
-enum { THREADS = 8, PASSES = 3, TURNS = 400, KEYS = 16 };
+enum { THREADS = 8, PASSES = 3, TURNS = 400, KEYS = 16, LOOKS = 20000 };
 
 #define CHECK(what)                                                        \
     do {                                                                   \
@@ -24,6 +26,7 @@ static const char TEXT[] =
     "op put insert key\nop drop remove key\nop all query -> key value\nend\n";
 
 static const char *const NAMES[] = {"put", "drop", "all"};
+static const char *const SHAPES[] = {"insert key", "remove key", "query -> key value"};
 enum { PUT, DROP, ALL, OPERATIONS };
 
 static relc_waiting *waiting;
@@ -84,6 +87,46 @@ static void *work(void *of)
     return NULL;
 }
 
+/* ---- looking up beside sessions that come and go */
+
+static atomic_int is_over;
+
+static void *open_and_give_back(void *of)
+{
+    unsigned long *opened = of;
+    while (!atomic_load(&is_over)) {
+        relc_session *session = NULL;
+        CHECK(relc_open_session_in_turn(waiting, store, &session) == RELC_DONE);
+        CHECK(relc_give_back_in_turn(waiting, store, session) == RELC_DONE);
+        ++*opened;
+    }
+    return NULL;
+}
+
+/* Each shape is the operation with its name, and the plans are those that nobody disturbed. */
+static void test_looks(void)
+{
+    static relc_text_page before;
+    unsigned long opened = 0;
+    pthread_t thread;
+    CHECK(relc_plans(store, &before) == RELC_DONE && before.count == before.length);
+    CHECK(pthread_create(&thread, NULL, open_and_give_back, &opened) == 0);
+    for (size_t look = 0; look < LOOKS; look++) {
+        size_t at = look % OPERATIONS;
+        const char *line = SHAPES[at];
+        relc_operation_frame frame = {0};
+        CHECK(relc_shape_in_turn(waiting, store, (const uint8_t *)line, strlen(line), &frame) == RELC_DONE);
+        CHECK(frame.op == number_of(NAMES[at]));
+        CHECK(relc_shape_in_turn(waiting, store, (const uint8_t *)"update key", 10, &frame) == RELC_OPERATION);
+        relc_text_page page = {0};
+        CHECK(relc_plans_in_turn(waiting, store, &page) == RELC_DONE && page.count == before.count);
+        CHECK(memcmp(page.bytes, before.bytes, page.count) == 0);
+    }
+    atomic_store(&is_over, 1);
+    CHECK(pthread_join(thread, NULL) == 0);
+    printf("%d shapes and plans beside %lu sessions: 1 passed, 0 failed\n", LOOKS, opened);
+}
+
 int main(void)
 {
     static struct server servers[THREADS];
@@ -111,7 +154,8 @@ int main(void)
         CHECK(relc_row(session, &frame) == RELC_DONE);
         CHECK(frame.cells[0] < KEYS);
     }
-    relc_close_session(session);
+    CHECK(relc_give_back_in_turn(waiting, store, session) == RELC_DONE);
+    test_looks();
     relc_close_store(store);
     relc_close_waiting(waiting);
     pthread_barrier_destroy(&start);

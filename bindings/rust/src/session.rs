@@ -153,14 +153,15 @@ impl Session {
         end: Option<Instant>,
         ask: impl Fn(&mut Session) -> u32,
     ) -> u32 {
-        let shared = self.shared.clone();
-        shared.events.stand_back(end);
+        self.shared.events.stand_back(end);
         for _ in 0..TRIES {
             match ask(self) {
                 sys::BUSY => std::hint::spin_loop(),
                 code => return code,
             }
         }
+        // only who waits holds on to what is shared: a count of all threads would be changed at each call
+        let shared = self.shared.clone();
         let code = shared.events.wait(end, || match ask(self) {
             sys::BUSY => None,
             code => Some(code),
@@ -463,7 +464,7 @@ impl Session {
     fn any_reply(&mut self) -> Reply {
         let Frame { kind, number, .. } = *self.frame;
         match kind {
-            sys::ROWS => Reply::Rows((0..number).map(|row| self.cells(row)).collect()),
+            sys::ROWS => Reply::Rows(self.any_rows(number)),
             sys::MANY => Reply::Many(number),
             sys::INSERTED => Reply::Added,
             sys::PRESENT => Reply::Present,
@@ -473,6 +474,22 @@ impl Session {
             sys::ABSENT => Reply::Absent,
             kind => unreachable!("there is no reply of kind {kind}"),
         }
+    }
+
+    /// The rows of the reply that is there, which are so many and of one length: a page at a time.
+    fn any_rows(&mut self, count: u64) -> Vec<Vec<u64>> {
+        let mut rows = Vec::new();
+        let width = match count {
+            0 => 0,
+            _ => self.cells(0).len(),
+        };
+        while (rows.len() as u64) < count {
+            let told = self.turn(rows.len() as u64) as usize;
+            assert!(told > 0, "a reply has the rows that it counts");
+            let cells = &self.page.as_ref().expect("a page was read").cells;
+            rows.extend((0..told).map(|row| cells[row * width..(row + 1) * width].to_vec()));
+        }
+        rows
     }
 
     /// The values of a row of the reply that is there.
