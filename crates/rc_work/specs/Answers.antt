@@ -9,10 +9,10 @@ use Rattle.rc_work.specs.declared.work.Work.{Work}
 use Rattle.rc_work.specs.WorkGrammar.{after_bytes}
 use Rattle.rc_work.specs.PartGrammar.{DraftPart, WorkPart}
 
--- the header gave a number of threads
-abbrev pub GivesThreads : Result ℕ LineFault → Result ℕ LineRule → Type 0
-GivesThreads (Ok threads) gives = gives ≡ Ok threads
-GivesThreads (Err fault) gives = FailsLine fault gives
+-- a line, or a part of it, gave what it gives
+abbrev pub Gives : {X : Type 0} → Result X LineFault → Result X LineRule → Type 0
+Gives (Ok found) gives = gives ≡ Ok found
+Gives (Err fault) gives = FailsLine fault gives
 
 -- a line was taken into the draft, which is then `new`
 abbrev pub TakesLine : {X : Type 0} → Result X LineFault → Draft → Result Draft LineRule → Type 0

@@ -16,6 +16,7 @@ pub mod UnfilledGroupsLaws
 pub mod CallColumns
 pub mod CallColumnsLaws
 pub mod CallLaws
+pub mod CallPartsLaws
 pub mod DistinctLaws
 pub mod LineForms
 pub mod LineRules

@@ -1,13 +1,13 @@
 -- The rules that a line behind the header may break, after the lines before it, and what it adds where it breaks none.
 use Rattle.std.specs.Prelude.{ℕ, Bool, true, false, not, ◌&&◌, ◌||◌, ◌==◌, nat_le, nat_lt, if◌then◌else◌, List, [], ◌∷◌, ◌++◌, length, Option, Some, None, is_none, is_some, unwrap_or, Result, Ok, Err}
-use Rattle.rc_work.specs.Imports.{list_any, filter_map, option_map_or, WordText, plain_text, quoted_text, u64_of, NumFault, op_names, ColKind, Spec, number_among, LineRule, S5, S6, S7, S8, W1, W2, W3, W5}
+use Rattle.rc_work.specs.Imports.{list_any, filter_map, option_map_or, WordText, plain_text, quoted_text, u64_of, NumFault, op_names, ColKind, Op, Spec, number_among, LineRule, S5, S6, S7, S8, W1, W2, W3, W5}
 use Rattle.rc_spec.specs.declared.items.ColKind.TheVariants as kinds
 use Rattle.rc_work.specs.declared.raw.RawValue.{RawValue}
 use Rattle.rc_work.specs.declared.raw.RawValue.TheVariants as raw
 use Rattle.rc_work.specs.declared.raw.RawCall.{RawCall}
 use Rattle.rc_work.specs.declared.draft.Draft.{Draft}
 use Rattle.rc_work.specs.Printed.{kind_at}
-use Rattle.rc_work.specs.CallColumns.{written_columns_at}
+use Rattle.rc_work.specs.CallColumns.{written_columns, written_columns_at}
 use Rattle.rc_work.specs.UnfilledGroups.{count_in, is_others, with_call}
 use Rattle.rc_work.specs.LineForms.{FormText, round_line, end_line, call_line, group_line}
 
@@ -63,6 +63,13 @@ has_wrong_kind spec [] values = false
 has_wrong_kind spec (col ∷ cols) [] = false
 has_wrong_kind spec (col ∷ cols) (value ∷ values) = is_wrong_kind (kind_at spec col) value || has_wrong_kind spec cols values
 
+-- the call of an operation that has this number, or the first of W2 and W3 that its values break
+abbrev pub read_call : Spec → Op → ℕ → List WordText → Result RawCall LineRule
+read_call spec op number values =
+    if not (length values == length (written_columns spec op)) then Err W2
+    else if has_wrong_kind spec (written_columns spec op) (raw_values values) then Err W3
+    else Ok (record { op = number; cols = written_columns spec op; values = raw_values values })
+
 -- S5: a thread that is not below the count, a value above 2^64 - 1, a text of more than 64 bytes, or a group of fewer
 -- than 2 or more than 16 calls
 abbrev pub breaks_range : Draft → FormText → Bool
@@ -109,6 +116,15 @@ breaks_kinds spec (group_line thread size) = false
 -- the thread that a line names
 abbrev pub thread_in : Draft → List ℕ → ℕ
 thread_in draft word = unwrap_or (thread_of draft.threads word) 0
+
+-- the thread of a call with these values, or the first rule from S5 to S8 that the call breaks: S6 where it is one too many
+abbrev pub call_thread : Draft → Bool → List ℕ → List WordText → Result ℕ LineRule
+call_thread draft is_full thread values =
+    if is_none (thread_of draft.threads thread) || list_any is_too_large values then Err S5
+    else if is_full then Err S6
+    else if length draft.rounds == 0 then Err S7
+    else if draft.ended then Err S8
+    else Ok (thread_in draft thread)
 
 -- W5: the line stands within a group, and is no call of the group's thread
 abbrev pub breaks_group : Draft → FormText → Bool

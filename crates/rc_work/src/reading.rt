@@ -11,7 +11,7 @@ ghost use Rattle.rc_work.specs.WorkGrammar.{after_bytes, threads_by, threads_of_
 ghost use Rattle.rc_work.specs.Ranking.{work_reading};
 ghost use Rattle.rc_work.specs.Fitting.{HasThreads, RoundsFit};
 ghost use Rattle.rc_work.specs.Limits.{HasSingleTurns, KeepsLimits, KnowsTexts};
-ghost use Rattle.rc_work.specs.Answers.{GivesThreads, TakesLine, IsWorkRefusal};
+ghost use Rattle.rc_work.specs.Answers.{Gives, TakesLine, IsWorkRefusal};
 ghost use Rattle.rc_work.specs.declared.also.Also.TheVariants.{Nothing};
 
 use crate::also::Also;
@@ -28,7 +28,7 @@ use std::alloc::Global;
 
 /// The number of threads, which is 1 to 8.
 fn threads_by(count: &[u8]) -> Result<u32, LineFault>
-    ensures { GivesThreads result (threads_by (u64_of count.now)) }
+    ensures { Gives result (threads_by (u64_of count.now)) }
 {
     match read_u64(count) {
         Ok(threads) if 1 <= threads && threads <= 8 => Ok(threads as u32),
@@ -40,7 +40,7 @@ fn threads_by(count: &[u8]) -> Result<u32, LineFault>
 
 /// The number of threads that the header's words give.
 fn threads_of_words(words: &[Word<'_>]) -> Result<u32, LineFault>
-    ensures { GivesThreads result (threads_of_words (word_texts words.now)) }
+    ensures { Gives result (threads_of_words (word_texts words.now)) }
 {
     match words {
         [Word::Plain(first), Word::Plain(count)] if *first == b"work".as_slice() => {
@@ -53,7 +53,7 @@ fn threads_of_words(words: &[Word<'_>]) -> Result<u32, LineFault>
 /// The number of threads that a header gives.
 #[tactic(auto, unfolding(crate::specs::WorkGrammar::threads_of))]
 fn threads_of(alloc: Global, bytes: &[u8]) -> Result<u32, LineFault>
-    ensures { GivesThreads result (threads_of bytes.now) }
+    ensures { Gives result (threads_of bytes.now) }
 {
     match line_words(alloc, bytes)? {
         Some(words) => threads_of_words(&words),

@@ -1,25 +1,23 @@
 //! The rules that a line may break, and what it adds where it breaks none.
 
-ghost use Rattle.std.specs.Prelude.{◌≡◌, ◌<◌, [], length, is_none, IfOk, IfSome};
-ghost use Rattle.std.specs.Option.{option_map_or};
+ghost use Rattle.std.specs.Prelude.{◌≡◌, ◌≤◌, false, length, IfOk};
 ghost use Rattle.std.specs.List.{list_any};
 ghost use Rattle.rc_text.specs.Words.{text_of};
 ghost use Rattle.rc_spec.specs.InRange.{IsInRange};
 ghost use Rattle.rc_spec.specs.declared.spec.Spec.{Spec};
 ghost use Rattle.rc_work.specs.LineForms.{word_texts, form_text, round_line, end_line, call_line, group_line};
-ghost use Rattle.rc_work.specs.LineRules.{thread_of, group_size, raw_value, raw_values, is_too_large, is_wrong_kind, has_wrong_kind, after_form};
-ghost use Rattle.rc_work.specs.Answers.{TakesLine};
-ghost use Rattle.rc_work.specs.CallColumns.{written_columns_at};
+ghost use Rattle.rc_work.specs.LineRules.{thread_of, group_size, raw_value, raw_values, is_too_large, is_wrong_kind, has_wrong_kind, call_thread, read_call, after_form};
+ghost use Rattle.rc_work.specs.Answers.{Gives, TakesLine};
 
-use crate::columns::written_columns_at;
+use crate::columns::written_columns;
 use crate::draft::{Draft, UnfilledGroup};
 use crate::forms::Form;
 use crate::printing::kind_at;
 use crate::raw::{RawCall, RawCalls, RawTurn, RawValue, RawValues};
 use rc_reader::{LineFault, LineRule, number_among};
-use rc_spec::{ColKind, Spec};
+use rc_spec::{ColKind, Op, Spec};
 use rc_text::{Word, read_u64};
-use rc_tuple::{Cols, Memory};
+use rc_tuple::Memory;
 use rc_values::{MAX_LEN, Name64};
 use std::alloc::Global;
 
@@ -89,51 +87,17 @@ fn has_too_large(words: &[Word<'_>]) -> bool
     false
 }
 
-/// The values that words stand for, or `None` where one is too large.
-fn raw_values(alloc: Global, words: &[Word<'_>]) -> Result<Option<RawValues>, Memory>
-    ensures large { IfOk result (λ values. is_none values ≡ list_any is_too_large (word_texts words.now)) }
-    ensures values { IfOk result (λ values. IfSome values (λ read. read ≡ raw_values (word_texts words.now))) }
+/// The values that words stand for, without those that are too large.
+fn raw_values(alloc: Global, words: &[Word<'_>]) -> Result<RawValues, Memory>
+    ensures { IfOk result (λ values. values ≡ raw_values (word_texts words.now)) }
 {
     let mut values = RawValues::new(alloc);
     for word in words {
-        let Some(value) = raw_value(alloc, word)? else {
-            return Ok(None);
-        };
-        values.push(value)?;
+        if let Some(value) = raw_value(alloc, word)? {
+            values.push(value)?;
+        }
     }
-    Ok(Some(values))
-}
-
-/// The values that words stand for where there are so many of them, or `None` where one is too large. Of another count none
-/// is kept, since a line may have millions of words that are no call's.
-pub(crate) fn call_values(
-    alloc: Global,
-    words: &[Word<'_>],
-    count: usize,
-) -> Result<Option<RawValues>, Memory>
-    ensures large { IfOk result (λ values. is_none values ≡ list_any is_too_large (word_texts words.now)) }
-    ensures values { length words.now ≡ count
-        → IfOk result (λ values. IfSome values (λ read. read ≡ raw_values (word_texts words.now))) }
-{
-    if words.len() == count {
-        return raw_values(alloc, words);
-    }
-    if has_too_large(words) {
-        return Ok(None);
-    }
-    Ok(Some(RawValues::new(alloc)))
-}
-
-/// The columns of the values that a call of the operation with this number is written with; none without an operation.
-fn columns_of(alloc: Global, spec: &Spec, number: Option<usize>) -> Result<Cols, Memory>
-    requires range { IsInRange spec.now }
-    requires known { IfSome number (λ n. n < length spec.now.ops) }
-    ensures { IfOk result (λ cols. cols ≡ option_map_or (written_columns_at spec.now) number []) }
-{
-    match number {
-        Some(number) => written_columns_at(alloc, spec, number),
-        None => Ok(Cols::new(alloc)),
-    }
+    Ok(values)
 }
 
 /// Whether the value is none for a column of this kind.
@@ -149,7 +113,7 @@ fn is_wrong_kind(kind: ColKind, value: &RawValue) -> bool
 }
 
 /// Whether some value is none for the column beside it.
-pub(crate) fn has_wrong_kind(spec: &Spec, cols: &[u8], values: &[RawValue]) -> bool
+fn has_wrong_kind(spec: &Spec, cols: &[u8], values: &[RawValue]) -> bool
     requires { length values.now ≡ length cols.now }
     ensures { result ≡ has_wrong_kind spec.now cols.now values.now }
 {
@@ -159,6 +123,59 @@ pub(crate) fn has_wrong_kind(spec: &Spec, cols: &[u8], values: &[RawValue]) -> b
         }
     }
     false
+}
+
+/// The thread of a call, unless it breaks one of the rules S5 to S8. The caller says whether it is one too many.
+pub(crate) fn call_thread(
+    draft: &Draft,
+    is_full: bool,
+    thread: &[u8],
+    words: &[Word<'_>],
+) -> Result<u32, LineFault>
+    ensures gives { Gives result (call_thread draft.now is_full thread.now (word_texts words.now)) }
+    ensures few { IfOk result (λ thread. is_full ≡ false) }
+{
+    let Some(thread) = thread_of(draft.threads, thread) else {
+        return Err(LineFault::Broken(LineRule::S5));
+    };
+    if has_too_large(words) {
+        return Err(LineFault::Broken(LineRule::S5));
+    }
+    if is_full {
+        return Err(LineFault::Broken(LineRule::S6));
+    }
+    if draft.rounds.list().is_empty() {
+        return Err(LineFault::Broken(LineRule::S7));
+    }
+    if draft.ended {
+        return Err(LineFault::Broken(LineRule::S8));
+    }
+    Ok(thread)
+}
+
+/// The call of an operation that has this number, unless its values break W2 or W3. Values of another count aren't kept, since
+/// a line may have millions of words that are no call's.
+pub(crate) fn read_call(
+    alloc: Global,
+    spec: &Spec,
+    op: &Op,
+    number: u8,
+    words: &[Word<'_>],
+) -> Result<RawCall, LineFault>
+    requires few { length spec.now.columns ≤ 32 }
+    requires within { list_any is_too_large (word_texts words.now) ≡ false }
+    ensures { Gives result (read_call spec.now op.now number (word_texts words.now)) }
+{
+    let cols = written_columns(alloc, spec, op)?;
+    if words.len() != cols.list().len() {
+        return Err(LineFault::Broken(LineRule::W2));
+    }
+    let values = raw_values(alloc, words)?;
+    if has_wrong_kind(spec, cols.list(), values.list()) {
+        return Err(LineFault::Broken(LineRule::W3));
+    }
+    let op = number;
+    Ok(RawCall { op, cols, values })
 }
 
 fn add_round(draft: &mut Draft) -> Result<(), LineFault>
@@ -225,37 +242,16 @@ fn add_call(
     requires { IsInRange spec.now }
     ensures { TakesLine result draft.new (after_form spec.now draft.old (call_line thread.now op.now (word_texts words.now))) }
 {
-    let Some(thread) = thread_of(draft.threads, thread) else {
-        return Err(LineFault::Broken(LineRule::S5));
-    };
-    let number = number_among(spec.ops.list(), op);
-    let cols = columns_of(alloc, spec, number)?;
-    let Some(values) = call_values(alloc, words, cols.list().len())? else {
-        return Err(LineFault::Broken(LineRule::S5));
-    };
-    if draft.is_full() {
-        return Err(LineFault::Broken(LineRule::S6));
-    }
-    if draft.rounds.list().is_empty() {
-        return Err(LineFault::Broken(LineRule::S7));
-    }
-    if draft.ended {
-        return Err(LineFault::Broken(LineRule::S8));
-    }
-    let Some(op) = number else {
+    let thread = call_thread(draft, draft.is_full(), thread, words)?;
+    let Some(number) = number_among(spec.ops.list(), op) else {
         return Err(LineFault::Broken(LineRule::W1));
     };
-    if words.len() != cols.list().len() {
-        return Err(LineFault::Broken(LineRule::W2));
-    }
-    if has_wrong_kind(spec, cols.list(), values.list()) {
-        return Err(LineFault::Broken(LineRule::W3));
-    }
+    let op = &spec.ops.list()[number];
+    let call = read_call(alloc, spec, op, number as u8, words)?;
     if draft.is_others(thread) {
         return Err(LineFault::Broken(LineRule::W5));
     }
-    let op = op as u8;
-    draft.push_call(alloc, thread, RawCall { op, cols, values })?;
+    draft.push_call(alloc, thread, call)?;
     Ok(())
 }
 

@@ -12,10 +12,8 @@ ghost use Rattle.rc_work.specs.OpenGrammar.{open_of};
 ghost use Rattle.rc_work.specs.ShapeForms.{kind_text, plain_words, shape_text};
 ghost use Rattle.rc_work.specs.ShapeRules.{after_op, after_shape, breaks_limit, found_shape, is_one_shape_more, is_same_kind, is_same_shape, kind_with, out_words, range_words, shape_name, shape_place, with_shape};
 
-use crate::columns::written_columns;
 use crate::draft::Draft;
-use crate::raw::RawCall;
-use crate::rules::{call_values, has_wrong_kind, thread_of};
+use crate::rules::{call_thread, read_call};
 use crate::shape_forms::{Kind, ShapeForm};
 use rc_place::keeps_o;
 use rc_reader::{LineFault, LineRule, NamedColumns, named_columns, repeat_in_both};
@@ -233,40 +231,14 @@ fn add_op(
     ensures taken { TakesOpenLine result read.new (after_op spec.now read.old op thread.now (word_texts words.now)) }
     ensures few { OnOk result (length read.new.shapes ≤ 32) }
 {
-    let Some(thread) = thread_of(read.draft.threads, thread) else {
-        return Err(LineFault::Broken(LineRule::S5));
-    };
-    let cols = written_columns(alloc, spec, &op)?;
-    let Some(values) = call_values(alloc, words, cols.list().len())? else {
-        return Err(LineFault::Broken(LineRule::S5));
-    };
-    if read.is_full(&op) {
-        return Err(LineFault::Broken(LineRule::S6));
-    }
-    if read.draft.rounds.list().is_empty() {
-        return Err(LineFault::Broken(LineRule::S7));
-    }
-    if read.draft.ended {
-        return Err(LineFault::Broken(LineRule::S8));
-    }
-    if words.len() != cols.list().len() {
-        return Err(LineFault::Broken(LineRule::W2));
-    }
-    if has_wrong_kind(spec, cols.list(), values.list()) {
-        return Err(LineFault::Broken(LineRule::W3));
-    }
+    let thread = call_thread(&read.draft, read.is_full(&op), thread, words)?;
+    let place = shape_place(read.shapes.list(), &op);
+    let number = spec.ops.list().len() + place.unwrap_or(read.shapes.list().len());
+    let call = read_call(alloc, spec, &op, number as u8, words)?;
     if !keeps_rules(spec, &op) {
         return Err(LineFault::Broken(LineRule::W4));
     }
-    let place = shape_place(read.shapes.list(), &op);
-    let number = spec.ops.list().len() + place.unwrap_or(read.shapes.list().len());
-    let op_number = number as u8;
     keep_shape(alloc, &mut read.shapes, op, place)?;
-    let call = RawCall {
-        op: op_number,
-        cols,
-        values,
-    };
     read.draft.push_call(alloc, thread, call)?;
     Ok(())
 }
