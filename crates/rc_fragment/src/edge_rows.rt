@@ -7,16 +7,16 @@ ghost use Rattle.rc_tuple.specs.RisingSet.{In};
 ghost use Rattle.rc_tuple.specs.Tuple.{Pairs};
 ghost use Rattle.rc_edges.specs.EdgeMap.{HasAsMany, HasExtra, count_of, extra_of, one_less};
 ghost use Rattle.rc_fragment.specs.Container.{now_in};
-ghost use Rattle.rc_fragment.specs.Listing.{IsFiled, row_found, source_rows};
+ghost use Rattle.rc_fragment.specs.Listing.{IsFiled};
 ghost use Rattle.rc_fragment.specs.RowValues.{IsParted};
 ghost use Rattle.rc_fragment.specs.Sources.{AreOfShape, AreOfWidth, AreSame, Becomes, HasPushed, HasRowAt, IsClean, IsNewAt, IsStoredRow, IsSingle, kept_at, sources_of, listed_in, now_at, shown_sources};
 
 use crate::EdgeShape;
 use crate::container::Container;
-use crate::rows::{push_rows, row_of};
+use crate::rows::push_rows;
 use crate::source_table::SourceTable;
 use rc_maps::{Keyed, Seed};
-use rc_tuple::{Memory, Tuple, Tuples};
+use rc_tuple::{Memory, Tuples};
 use std::alloc::Global;
 
 /// The rows of one edge in containers of the edge's kind, one for each row of the edge's source that
@@ -186,33 +186,6 @@ impl EdgeRows {
                 Err(memory)
             }
         }
-    }
-
-    /// The row at the source and the key, if there is one.
-    pub fn row_at(&self, source: &[u64], key: &[u64]) -> Result<Option<Tuple>, Memory>
-        requires filed { IsFiled now_in self.now }
-        requires parted { IsParted self.now.shape }
-        ensures { IfOk result (λ row. row ≡ row_found self.now.shape source.now key.now (now_at self.now source.now key.now)) }
-    {
-        let Some(extra) = self.get(source, key) else {
-            return Ok(None);
-        };
-        let row = row_of(self.alloc, &self.shape, source, key, extra)?;
-        Ok(Some(row))
-    }
-
-    /// The rows at the source, rising by their keys.
-    pub fn rows_at(&self, source: &[u64]) -> Result<Tuples, Memory>
-        requires filed { IsFiled now_in self.now }
-        requires parted { IsParted self.now.shape }
-        ensures { IfOk result (λ rows. rows ≡ source_rows self.now.shape source.now (fin.get (sources_of self.now) source.now)) }
-    {
-        let mut values = Vec::new(self.alloc);
-        let mut rows = Tuples::new(self.alloc);
-        if let Some(container) = self.sources.get(source) {
-            push_rows(&self.shape, source, container, &mut values, &mut rows)?;
-        }
-        Ok(rows)
     }
 
     /// All rows, in no particular order.

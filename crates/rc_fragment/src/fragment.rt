@@ -1,7 +1,7 @@
 //! The fragment of a stripe, with the rows of all edges.
 
 ghost use Rattle.std.specs.Prelude.{◌≡◌, ◌<◌, ◌≤◌, ◌↔◌, Err, IsTrue, length, OnOk, OnErr, IfOk, option_copied};
-ghost use Rattle.rc_fragment.specs.Fragment.{AreAllRows, AreRowsOf, HasColumns, HasNoRowOf, HasRowOf, HasScanned, HasShape, IsFoundAt, IsLookedUp, IsScan, edge_row, edge_table};
+ghost use Rattle.rc_fragment.specs.Fragment.{AreAllRows, AreRowsOf, HasColumns, HasNoRowOf, HasRowOf, HasScanned, HasShape, IsLookedUp, edge_row, edge_table};
 ghost use Rattle.rc_fragment.specs.FragmentRows.{no_rows, rolled_back, settled, with_promise, without_promise};
 ghost use Rattle.rc_fragment.specs.ImpliedTables.{IsTable, full_rows};
 ghost use Rattle.rc_fragment.specs.Tuples.{CanAddTuple, HasTuple, IsFirstKept, IsPartlyAdded, IsRowOf, changes_of_class, full_fragment, with_tuple, without_tuple};
@@ -9,7 +9,6 @@ ghost use Rattle.rc_fragment.specs.declared.held.AddStop.TheVariants as stop;
 ghost use Rattle.rc_fragment.specs.declared.shape.EdgeShape.{EdgeShape};
 
 use crate::AddStop;
-use crate::rows::row_over;
 use crate::stored::Stored;
 use crate::values::values_at;
 use rc_maps::Seed;
@@ -192,46 +191,6 @@ impl Fragment {
                     self.stored.push_sources(lower, out)
                 } else {
                     Ok(())
-                }
-            }
-        }
-    }
-
-    /// The row of the edge with these values at the source's and at the key's columns, if there is one,
-    /// as a tuple of its own. Costs what `lookup` does, and memory for the row.
-    pub fn row_at(&self, edge: u8, source: &[u64], key: &[u64]) -> Result<Option<Tuple>, Memory>
-        requires { edge < length self.now.table }
-        ensures { IfOk result (λ row. (shape : EdgeShape) → HasShape self.now.table edge shape → IsFoundAt shape self.now.now edge source.now key.now row) }
-    {
-        self.stored.rows_fit_the_table();
-        let shape = self.stored.shape(edge);
-        match shape.lower {
-            None => self.stored.row_at(edge, source, key),
-            Some(lower) => {
-                if source.is_empty() && self.stored.has_source(lower, key) {
-                    let row = row_over(self.stored.alloc(), shape.key, key)?;
-                    Ok(Some(row))
-                } else {
-                    Ok(None)
-                }
-            }
-        }
-    }
-
-    /// The rows of the edge with these values at the source's columns, rising by their keys, as tuples
-    /// of their own. Costs what `scan` does, and memory for each row.
-    pub fn rows_at(&self, edge: u8, source: &[u64]) -> Result<Tuples, Memory>
-        requires { edge < length self.now.table }
-        ensures { IfOk result (λ rows. (shape : EdgeShape) → HasShape self.now.table edge shape → IsScan shape self.now.now edge source.now rows) }
-    {
-        self.stored.rows_fit_the_table();
-        match self.stored.shape(edge).lower {
-            None => self.stored.rows_at(edge, source),
-            Some(lower) => {
-                if source.is_empty() {
-                    self.stored.sources(lower)
-                } else {
-                    Ok(Tuples::new(self.stored.alloc()))
                 }
             }
         }

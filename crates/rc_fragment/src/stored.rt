@@ -2,7 +2,7 @@
 
 ghost use Rattle.std.specs.Prelude.{◌≡◌, ◌<◌, ◌↔◌, IsTrue, length, OnOk, OnErr, IfOk, option_copied};
 ghost use Rattle.rc_spec.specs.CountedRows.{lowered, raised};
-ghost use Rattle.rc_fragment.specs.Fragment.{edge_row, AreAllRows, AreRowsOf, AreWhole, HasColumns, HasNoRowOf, HasScanned, HasShape, IsFoundAt, IsLookedUp, IsScan, IsThere, edge_table, seen_parts, shape_of};
+ghost use Rattle.rc_fragment.specs.Fragment.{edge_row, AreAllRows, AreRowsOf, AreWhole, HasColumns, HasNoRowOf, HasScanned, HasShape, IsLookedUp, IsThere, edge_table, seen_parts};
 ghost use Rattle.rc_fragment.specs.FragmentRows.{changed, no_rows, rolled_back, settled, with_promise, without_promise};
 ghost use Rattle.rc_fragment.specs.ImpliedReads.{HasListed, HasSource, HasSourceRows};
 ghost use Rattle.rc_fragment.specs.ImpliedTables.{IsTable};
@@ -18,7 +18,7 @@ use crate::edge_rows::EdgeRows;
 use crate::note::{Note, VALUES_OF_NOTE};
 use crate::rows::rows_over;
 use rc_maps::Seed;
-use rc_spec::{Accepted, Edge, Spec};
+use rc_spec::Accepted;
 use rc_tuple::{Memory, Tuple, Tuples};
 use std::alloc::Global;
 use std::marker::Model;
@@ -208,26 +208,6 @@ impl Stored {
     {
         let rows = &self.parts.edges[edge as usize];
         rows.scan(source, out)
-    }
-
-    /// The row of the edge with these values at the source's and at the key's columns, if there is one,
-    /// as a tuple of its own. Costs what `lookup` does, and memory for the row.
-    pub fn row_at(&self, edge: u8, source: &[u64], key: &[u64]) -> Result<Option<Tuple>, Memory>
-        requires { edge < length self.now.table }
-        ensures { IfOk result (λ row. (shape : EdgeShape) → HasShape self.now.table edge shape → IsFoundAt shape self.now.now edge source.now key.now row) }
-    {
-        let rows = &self.parts.edges[edge as usize];
-        rows.row_at(source, key)
-    }
-
-    /// The rows of the edge with these values at the source's columns, rising by their keys, as tuples
-    /// of their own. Costs what `scan` does, and memory for each row.
-    pub fn rows_at(&self, edge: u8, source: &[u64]) -> Result<Tuples, Memory>
-        requires { edge < length self.now.table }
-        ensures { IfOk result (λ rows. (shape : EdgeShape) → HasShape self.now.table edge shape → IsScan shape self.now.now edge source.now rows) }
-    {
-        let rows = &self.parts.edges[edge as usize];
-        rows.rows_at(source)
     }
 
     /// How many edges there are.

@@ -1,4 +1,3 @@
 pub mod SummaryLemmas
-pub mod ShardingLemmas
 pub mod TextLemmas
 pub mod GeneratingLemmas

@@ -7,7 +7,6 @@ mod generating;
 mod laws;
 mod sample;
 mod shard_laws;
-mod sharding;
 mod summary;
 mod summary_text;
 
@@ -21,6 +20,5 @@ pub use shard_laws::{
     histories_exist, rows_are_few, same_in_every_schedule, shards_are_apart,
     shards_are_as_one_thread, summaries_add_up, summaries_are_of_calls, summaries_are_one_threads,
 };
-pub use sharding::is_sharded;
 pub use summary::{Summary, summarise};
 pub use summary_text::print_summary;

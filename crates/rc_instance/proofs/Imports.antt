@@ -9,7 +9,7 @@ pub use Rattle.rc_fragment.specs.Tuples.{ArePartlyAdded, CanAddTuple, HasTuple, 
 pub use Rattle.rc_fragment.specs.declared.shape.EdgeShape.{EdgeShape}
 pub use Rattle.rc_instance.specs.Fragments.{IsEmptyFragment, each_at, with_at}
 pub use Rattle.rc_instance.specs.Index.{Entries, IsAdded, IsIndexed, found_at, tuples_in, tuples_of, whole_of}
-pub use Rattle.rc_instance.specs.Instance.{AreReleased, HaveOneTable, IsEmpty, IsInstance, IsOfOneRelation, IsOfRelation, IsWholeInstance, Stripe, held_from, held_mode, held_numbers, held_part, holding, kept_stripe, lent_from, lent_part, mode_in, number_part, offered_at, room_at, room_in, rows_of, rows_of_fragments, stripes_of, table_of, table_of_fragments, taken_in}
+pub use Rattle.rc_instance.specs.Instance.{AreReleased, HaveOneTable, IsEmpty, IsInstance, IsOfOneRelation, IsOfRelation, IsWholeInstance, Stripe, held_from, held_numbers, held_part, holding, kept_stripe, lent_from, lent_part, number_part, offered_at, room_at, room_in, rows_of, rows_of_fragments, stripes_of, table_of, table_of_fragments, taken_in}
 pub use Rattle.rc_instance.specs.InstanceLaws.{IsHeldFrom, as_held, held-lent, held_from_in, held_of-holding, in_held_from, lent_as, no_table, offered-length, place_in}
 pub use Rattle.rc_instance.specs.RelationLaws.{free_law}
 pub use Rattle.rc_spec.specs.Acceptance.{IsSealed}

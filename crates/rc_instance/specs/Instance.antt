@@ -53,14 +53,6 @@ abbrev pub held_numbers : ℕ → List Stripe → List ℕ
 held_numbers n [] = []
 held_numbers n (s ∷ ss) = number_part n s.held ++ held_numbers (suc n) ss
 
--- how the stripe of a number is held, if there is one and it is held
-abbrev pub mode_in : Option Stripe → Option Mode
-mode_in None = None
-mode_in (Some s) = s.held
-
-abbrev pub held_mode : List Stripe → ℕ → Option Mode
-held_mode ss n = mode_in (slice_get ss n)
-
 -- the rows as taken, which are offered where the stripe is free
 abbrev pub taken_in : Option Stripe → Option (List EdgeRow)
 taken_in None = None

@@ -8,7 +8,7 @@ ghost use Rattle.rc_spec.specs.declared.spec.Spec.{Spec};
 ghost use Rattle.rc_fragment.specs.Fragment.{edge_table};
 ghost use Rattle.rc_fragment.specs.Holder.{HasTaken, IsAbove, held_of};
 ghost use Rattle.rc_fragment.specs.Keep.{KeptRows, kept_rows};
-ghost use Rattle.rc_instance.specs.Instance.{AreReleased, HaveOneTable, IsEmpty, IsOfOneRelation, IsOfRelation, held_from, held_mode, holding, kept_stripe, rows_of, table_of};
+ghost use Rattle.rc_instance.specs.Instance.{AreReleased, HaveOneTable, IsEmpty, IsOfOneRelation, IsOfRelation, held_from, holding, kept_stripe, rows_of, table_of};
 
 use crate::fragments::{empty_fragments, free_held, revert_held, settle_held};
 use crate::held_numbers::HeldNumbers;
@@ -105,14 +105,6 @@ impl Instance {
         settle_held(&mut self.fragments, self.numbers.list());
         free_held(&mut self.held, self.numbers.list());
         self.numbers.clear();
-    }
-
-    /// In which mode the stripe is held, if it is held.
-    pub fn held_mode(&self, stripe: u32) -> Option<Mode>
-        requires { stripe < length self.now }
-        ensures { result ≡ held_mode self.now stripe }
-    {
-        self.held[stripe as usize]
     }
 
     /// The tuples that the instance represents, rising: the join of the rows now of all edges. Where no

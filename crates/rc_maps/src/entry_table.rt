@@ -22,10 +22,6 @@ pub trait EntryTable: Sized {
     /// Whether only keys of one column are taken.
     ghost one_column: { Self → Bool };
 
-    /// Whether only keys of one column are taken.
-    fn takes_one_column(&self) -> bool
-        ensures { result ≡ one_column self.now };
-
     /// The entry at the key, if there is one.
     fn entry(&self, key: &[u64]) -> Option<&Entry>
         ensures { option_copied result ≡ fin.get (entries self.now) key.now };

@@ -191,10 +191,6 @@ impl EntryTable for HashTable<Entry> {
 
     ghost one_column = { has_one_column };
 
-    fn takes_one_column(&self) -> bool {
-        matches!(self, HashTable::One(_))
-    }
-
     fn entry(&self, key: &[u64]) -> Option<&Entry> {
         self.get(key)
     }

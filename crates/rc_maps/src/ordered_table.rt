@@ -180,10 +180,6 @@ impl EntryTable for OrderedTable<Entry> {
 
     ghost one_column = { has_one_column };
 
-    fn takes_one_column(&self) -> bool {
-        matches!(self, OrderedTable::One(_))
-    }
-
     fn entry(&self, key: &[u64]) -> Option<&Entry> {
         self.get(key)
     }

@@ -40,15 +40,6 @@ impl<T: EntryTable> Model for TableEdge<T> {
     ghost view = { λ a. record { one_column = T.one_column a.table; rows = T.entries a.table } };
 }
 
-impl<T: EntryTable> TableEdge<T> {
-    /// Whether only keys of one column are taken.
-    pub fn takes_one_column(&self) -> bool
-        ensures { result ≡ self.now.one_column }
-    {
-        self.table.takes_one_column()
-    }
-}
-
 impl TableEdge<HashTable<Entry>> {
     /// The container with no row, which takes no memory: it takes keys of one column alone, or any.
     pub fn new(alloc: Global, seed: Seed, one_column: bool) -> Self

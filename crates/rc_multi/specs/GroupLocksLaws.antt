@@ -1,9 +1,9 @@
 -- The locks of a group suffice for its calls.
-use Rattle.std.specs.Prelude.{◌≡◌, ◌↔◌, ℕ, zero, suc, ◌+◌, ◌++◌, ◌<◌, ◌≤◌, ◌==◌, ◌&&◌, ◌⊎◌, not, All, Bool, true, false, List, [], ◌∷◌, Option, None, Some, filter, get_or, length, map, nat_lt, if◌then◌else◌}
-use Rattle.rc_multi.specs.Imports.{flat_map, list_all, list_any, range_with_len, nat_cmp, nat_cmp_is, Less, In, IsRising, each_in, filter_in, flat_map_in, gather_in, get_or_in, in_append, in_contains, in_filter, in_flat_map, in_gather, in_list_all, in_map, list_all_in, map_in, nat_order, rising_gather, in_list_any, list_any_in, within_from_test, in_range_below, in_range_bounds, rising_range, cols_of, Call, Mode, Exclusive, Shared, Spec, Fits, IsPlaced, class_at, band_start, physical_stripe, stripe_total, no_class, Class, sum_by, band_before, Statement, Lock, Probe, Read, CheckAbsent, CheckFound, CheckDep, Apply, Emit, Commit, Release, Which, own_plan_accepted, IsNamedBy, StripeLock, Suffices, IsOfClass, band, stripes_of, IsOfClass-physical_stripe, band_of_class, in_stripes_of, CallWithPlan, with_plan, with_plans, IsOfClassLocked}
+use Rattle.std.specs.Prelude.{◌≡◌, ℕ, zero, suc, ◌+◌, ◌++◌, ◌<◌, ◌≤◌, ◌==◌, ◌&&◌, ◌⊎◌, not, All, Bool, true, false, List, [], ◌∷◌, Option, None, Some, filter, length, map, if◌then◌else◌}
+use Rattle.rc_multi.specs.Imports.{flat_map, list_any, range_with_len, nat_cmp, nat_cmp_is, Less, In, IsRising, each_in, filter_in, flat_map_in, gather_in, in_append, in_filter, in_flat_map, in_gather, in_map, map_in, nat_order, rising_gather, in_list_any, list_any_in, within_from_test, in_range_below, in_range_bounds, rising_range, cols_of, Mode, Exclusive, Shared, Spec, Fits, IsPlaced, class_at, band_start, physical_stripe, stripe_total, no_class, Class, sum_by, band_before, Statement, Lock, Probe, Read, CheckAbsent, CheckFound, CheckDep, Apply, Emit, Commit, Release, Which, own_plan_accepted, IsNamedBy, StripeLock, Suffices, IsOfClass, band, stripes_of, IsOfClass-physical_stripe, band_of_class, in_stripes_of, CallWithPlan, with_plan, with_plans, IsOfClassLocked}
 use Rattle.std.proofs.Common.{refl, sym, ap, subst, ◌∙◌, inl, inr, arith}
-use Rattle.std.proofs.lemmas.Bool.{eqb-true, eq-eqb, false≢true, lt-ltb, ltb-true}
-use Rattle.std.proofs.lemmas.List.Elements.{All-contains, All-nil, All-cons}
+use Rattle.std.proofs.lemmas.Bool.{eqb-true, eq-eqb, false≢true}
+use Rattle.std.proofs.lemmas.List.Elements.{All-nil, All-cons}
 use Rattle.std.proofs.lemmas.Option.{slice_get_within}
 use Rattle.std.proofs.lemmas.List.Sums.{sum_by_more_le}
 use Rattle.std.proofs.lemmas.List.{take_all}
@@ -17,16 +17,6 @@ use Rattle.rc_multi.specs.GroupLocks.{HasOperation, chooses, chosen_stripes, cla
 pub have_operations : CallsThatFitHaveOperations
 have_operations spec [] fit = All-nil (HasOperation spec)
 have_operations spec (call ∷ calls) fit = All-cons (HasOperation spec) call calls (slice_get_within spec.ops call.op fit.0.0 fit.0.1.known) (have_operations spec calls fit.1)
-
--- that each call's operation is known can be tested
-pub known_tests : (spec : Spec) (calls : List Call) → (list_all (λ (call : Call). nat_lt call.op (length spec.ops)) calls ≡ true) ↔ All (HasOperation spec) calls
-known_tests spec calls = (
-  λ e i d l. ltb-true (get_or calls i d).op (length spec.ops) (list_all_in known calls e (get_or calls i d) (get_or_in calls i d l)),
-  λ all. in_list_all known calls (λ call m. lt-ltb call.op (length spec.ops) (All-contains (HasOperation spec) calls call all (in_contains call calls m))),
-)
-  where
-    known : Call → Bool
-    known call = nat_lt call.op (length spec.ops)
 
 and_both : (a b : Bool) → a ≡ true → b ≡ true → a && b ≡ true
 and_both true b e f = f

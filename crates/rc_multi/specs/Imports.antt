@@ -47,10 +47,10 @@ pub use Rattle.rc_tuple.specs.ColSetLaws.{in_range_below, in_range_bounds, risin
 pub use Rattle.rc_tuple.specs.Relation.{IsRelation, Satisfies}
 pub use Rattle.rc_tuple.specs.RelationLaws.{in_list_any, list_any_in}
 pub use Rattle.rc_tuple.specs.RisingSet.{In, IsRising, gather, put}
-pub use Rattle.rc_tuple.specs.RisingSetLaws.{append_in_left, append_in_right, each_in, filter_in, flat_map_in, gather_in, get_or_in, in_append, in_contains, in_filter, in_flat_map, in_gather, in_list_all, in_map, list_all_in, map_in, nat_order, not_below_itself, rising_gather, same_rising}
+pub use Rattle.rc_tuple.specs.RisingSetLaws.{append_in_left, append_in_right, each_in, filter_in, flat_map_in, gather_in, in_append, in_filter, in_flat_map, in_gather, in_map, map_in, nat_order, not_below_itself, rising_gather, same_rising}
 pub use Rattle.rc_tuple.specs.Tuple.{Pairs, cols_of}
 pub use Rattle.std.specs.Cmp.{nat_cmp_is}
-pub use Rattle.std.specs.List.{AllByRecursion, flat_map, list_all, list_any, range_with_len, sum_by}
+pub use Rattle.std.specs.List.{AllByRecursion, flat_map, list_any, range_with_len, sum_by}
 pub use Rattle.std.specs.Ordering.{nat_cmp}
 pub use Rattle.std.specs.Prelude.{List, map}
 pub use Rattle.std.specs.declared.cmp.Ordering.TheVariants.{Less}

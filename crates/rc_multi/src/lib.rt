@@ -15,7 +15,7 @@ mod offered;
 mod using;
 
 pub use covering::covers;
-pub use fitting::{all_fit, all_known};
+pub use fitting::all_fit;
 pub use group::{run_group, run_in_group};
 pub use laws::{
     calls_that_fit_have_operations, group_locks_are_locked, group_locks_lie_inside,

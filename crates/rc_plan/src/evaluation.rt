@@ -1,17 +1,13 @@
 //! What the statements of a plan find, over any bindings and rows.
 
-ghost use Rattle.std.specs.Prelude.{◌≡◌, ◌<◌, ◌≤◌, ◌&&◌, ◌++◌, ◌∷◌, [], filter, length, map, not, IfOk, OnOk};
+ghost use Rattle.std.specs.Prelude.{◌≡◌, ◌<◌, ◌≤◌, ◌&&◌, ◌++◌, ◌∷◌, [], filter, length, not, IfOk, OnOk};
 ghost use Rattle.std.specs.List.{list_any};
 ghost use Rattle.rc_tuple.specs.Tuple.{agree_on, merges_of};
 ghost use Rattle.rc_spec.specs.InRange.{AreBelow};
-ghost use Rattle.rc_spec.specs.Placement.{IsPlaced};
 ghost use Rattle.rc_spec.specs.Ranges.{in_ranges};
-ghost use Rattle.rc_spec.specs.Stripes.{physical_stripe};
-ghost use Rattle.rc_plan.specs.Evaluation.{answer, some_differs, stays_beside, stripes_locked};
-ghost use Rattle.rc_plan.specs.StripeLocks.{band};
+ghost use Rattle.rc_plan.specs.Evaluation.{answer, some_differs, stays_beside};
 
-use crate::Which;
-use rc_spec::{Op, OpKind, QueryRows, Range, Reply, Spec, band_start, in_ranges, physical_stripe};
+use rc_spec::{Op, OpKind, QueryRows, Range, Reply, Spec, in_ranges};
 use rc_tuple::{ColSet, Cols, Memory, Tuple};
 use std::alloc::Global;
 
@@ -97,57 +93,6 @@ fn is_same_on(cols: ColSet, binding: &Tuple, args: &Tuple) -> Result<bool, Memor
     let pairs = binding.project(cols)?;
     let others = args.project(cols)?;
     Ok(pairs.order(&others).is_eq())
-}
-
-/// The physical stripes of a class that a Lock takes: those on which the bindings fall, in their order, or all of the
-/// class, rising.
-pub fn stripes_locked(
-    alloc: Global,
-    spec: &Spec,
-    class: u8,
-    which: Which,
-    bindings: &[Tuple],
-) -> Result<Vec<u32>, Memory>
-    requires known { class < length spec.now.classes }
-    requires placed { IsPlaced spec.now }
-    ensures { IfOk result (λ stripes. stripes.items ≡ stripes_locked spec.now class which bindings.now) }
-{
-    match which {
-        Which::Keyed => stripes_of_bindings(alloc, spec, class, bindings),
-        Which::All => band(alloc, spec, class),
-    }
-}
-
-/// The stripes of a class on which the bindings fall.
-fn stripes_of_bindings(
-    alloc: Global,
-    spec: &Spec,
-    class: u8,
-    bindings: &[Tuple],
-) -> Result<Vec<u32>, Memory>
-    requires known { class < length spec.now.classes }
-    requires placed { IsPlaced spec.now }
-    ensures { IfOk result (λ stripes. stripes.items ≡ map (physical_stripe spec.now class) bindings.now) }
-{
-    let mut stripes = Vec::new(alloc);
-    for binding in bindings {
-        stripes.push(physical_stripe(spec, class, binding))?;
-    }
-    Ok(stripes)
-}
-
-/// All stripes of a class.
-fn band(alloc: Global, spec: &Spec, class: u8) -> Result<Vec<u32>, Memory>
-    requires known { class < length spec.now.classes }
-    requires placed { IsPlaced spec.now }
-    ensures { IfOk result (λ stripes. stripes.items ≡ band spec.now class) }
-{
-    let start = band_start(spec, class);
-    let mut stripes = Vec::new(alloc);
-    for place in 0..spec.classes.list()[class as usize].stripes {
-        stripes.push(start + place)?;
-    }
-    Ok(stripes)
 }
 
 /// Appends the merges of a binding with those of the tuples that agree with it, in their order.

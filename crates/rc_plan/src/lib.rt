@@ -13,7 +13,7 @@ mod statement;
 
 pub use access::{AccessPath, is_read_of};
 pub use compiled::Compiled;
-pub use evaluation::{answer, push_merge, push_merges, some_differs, stripes_locked};
+pub use evaluation::{answer, push_merge, push_merges, some_differs};
 pub use laws::{
     accepted_plans_lock_in_order, accepted_plans_serve, accepted_plans_serve_in_turn,
     compiled_plans_serve, compiled_plans_serve_in_turn, named_stripes_are_locked,

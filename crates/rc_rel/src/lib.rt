@@ -7,7 +7,6 @@ mod dependencies;
 mod entry;
 mod laws;
 mod plain_rel;
-mod replaying;
 mod scan;
 mod steps;
 
@@ -17,5 +16,4 @@ pub use laws::{
     own_entries_stand, placed_are_own, shares_add_up, states_are_relations, states_satisfy,
 };
 pub use plain_rel::PlainRel;
-pub use replaying::replay;
 pub use steps::Steps;

@@ -2,13 +2,11 @@
 
 ghost use Rattle.std.specs.Prelude.{◌≡◌, ℕ, ◌<◌, ◌≤◌, ◌*◌, length};
 ghost use Rattle.rc_tuple.specs.RisingSet.{In};
-ghost use Rattle.rc_spec.specs.Decomposition.{edge_at};
 ghost use Rattle.rc_spec.specs.InRange.{IsInRange};
 ghost use Rattle.rc_spec.specs.Placement.{IsPlaced};
-ghost use Rattle.rc_route.specs.Paths.{IsPathFromRoot, lookup_cost, scan_cost, read_cost, lock_cost, edge_cost, cost};
+ghost use Rattle.rc_route.specs.Paths.{lookup_cost, scan_cost, read_cost, lock_cost, edge_cost, cost};
 
-use crate::Route;
-use rc_spec::{Accepted, EdgeKind, Spec};
+use rc_spec::{EdgeKind, Spec};
 use rc_tuple::ColSet;
 
 /// What a read by the key costs.
@@ -86,15 +84,4 @@ pub(crate) fn cost_of(spec: &Spec, pattern: ColSet, edges: &[u8]) -> u64
         total += edge_cost(spec, pattern, *edge);
     }
     total
-}
-
-/// What a path from the root costs where the columns of the pattern are bound. An edge costs its read and its locks.
-/// The read costs 1 in a singleton; else, where the pattern has the key, 1 in a hash, 2 in an ordered map and 4 in a
-/// list; else 32. The locks cost 1 where pattern and source have the columns of the edge's class, else as much as the
-/// class has stripes.
-pub fn cost(accepted: &Accepted, pattern: ColSet, route: &Route) -> u64
-    requires { IsPathFromRoot accepted.now route.now }
-    ensures { result ≡ cost accepted.now pattern route.now }
-{
-    cost_of(accepted.spec(), pattern, route.list())
 }

@@ -10,7 +10,6 @@ mod search;
 mod walk;
 
 pub use choice::route_for;
-pub use costs::cost;
 pub use laws::{
     chosen_routes_are_good, least_paths_cost_least, least_paths_exist, one_chosen_route,
     one_least_path, one_pruned_walk, paths_are_good, walks_are_good, walks_are_pruned, walks_stay,

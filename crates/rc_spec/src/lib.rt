@@ -22,7 +22,7 @@ mod well_formed;
 
 pub use accepted::{Accepted, NodeOrder};
 pub use call::{Call, Reply};
-pub use counted_rows::{CountedRow, count_at, lowered, raised};
+pub use counted_rows::CountedRow;
 pub use fitting::fits;
 pub use items::{Class, ColKind, Column, Edge, EdgeKind, Name, Node, Op, OpKind, Place};
 pub use laws::{

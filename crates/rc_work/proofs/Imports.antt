@@ -26,14 +26,15 @@ pub use Rattle.rc_work.specs.Answers.{IsRestBehind, IsWorkRefusal, ReadsDraftPar
 pub use Rattle.rc_work.specs.CallColumns.{HasKnownColumns, columns_at, ranges_at, ranges_of, twice, written_columns_at}
 pub use Rattle.rc_work.specs.CallColumnsLaws.{columns_at-below, columns_at-distinct, length-written_columns_at, written_columns_at-parts}
 pub use Rattle.rc_work.specs.CallLaws.{length-bounds}
+pub use Rattle.rc_work.specs.CallPartsLaws.{call_given, call_unplaced, call_unread, op_given, op_unplaced, op_unread}
 pub use Rattle.rc_work.specs.Drafts.{IsDraft, IsOfAlso, IsRawCall, IsRawTurn}
 pub use Rattle.rc_work.specs.DraftsLaws.{IsDraft-reading_all}
 pub use Rattle.rc_work.specs.Fitting.{AreOfWords, HasThreads, IsOfWords, RoundsFit}
 pub use Rattle.rc_work.specs.GroupsLaws.{IsOfAlso-reading_all}
 pub use Rattle.rc_work.specs.Limits.{HasSingleTurns, KeepsLimits, KnowsTexts}
 pub use Rattle.rc_work.specs.LineForms.{is_value, word_texts}
-pub use Rattle.rc_work.specs.LineRules.{is_too_large, raw_values}
-pub use Rattle.rc_work.specs.LineRulesLaws.{length-raw_values}
+pub use Rattle.rc_work.specs.LineRules.{is_too_large, op_number, raw_values}
+pub use Rattle.rc_work.specs.LineRulesLaws.{length-raw_values, ok}
 pub use Rattle.rc_work.specs.OpenAnswers.{ReadsOpenLine, fails_open_line}
 pub use Rattle.rc_work.specs.OpenGrammar.{open_all, open_behind, open_language, open_of}
 pub use Rattle.rc_work.specs.OpenLaws.{IsOpAmong-shape_op, IsOpenDraft-open_all}
@@ -47,6 +48,7 @@ pub use Rattle.rc_work.specs.RefusalLaws.{IsWorkRefusal-reading_all}
 pub use Rattle.rc_work.specs.Report.{step_line}
 pub use Rattle.rc_work.specs.ReportLaws.{entry_at, final_after, final_part, final_row, length-parts, part_after, part_entry}
 pub use Rattle.rc_work.specs.ShapeForms.{has_mark, is_mark, is_plain, plain_words, shape_text}
+pub use Rattle.rc_work.specs.ShapeRules.{shape_place}
 pub use Rattle.rc_work.specs.Shapes.{with_operations}
 pub use Rattle.rc_work.specs.ShapesAnswers.{ReadsShapeLine, fails_shape_line}
 pub use Rattle.rc_work.specs.ShapesGrammar.{shapes_language, shapes_of}

@@ -34,7 +34,7 @@ pub use laws::{
 pub use open_work::{OpenWork, read_open};
 pub use part::read_work_part;
 pub use prefix_laws::{cut_texts_are_refused, last_letter_is_there};
-pub use printing::{print_step, print_tuple, push_count_line, push_step_line};
+pub use printing::{print_tuple, push_count_line, push_step_line};
 pub use reading::read_work;
 pub use reading_laws::{first_broken_part_line, first_broken_shape_line, first_broken_work_line};
 pub use report::{Report, print_final_line};

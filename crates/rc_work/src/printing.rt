@@ -1,8 +1,8 @@
-ghost use Rattle.std.specs.Prelude.{◌≡◌, ◌++◌, [], ◌∷◌, map, decimal, codes, OnOk, IfOk, slice_index_or};
+ghost use Rattle.std.specs.Prelude.{◌≡◌, ◌++◌, [], ◌∷◌, map, decimal, OnOk, IfOk, slice_index_or};
 ghost use Rattle.std.specs.List.{zip};
 ghost use Rattle.rc_tuple.specs.Tuple.{value};
 ghost use Rattle.rc_spec.specs.Calls.{Fits};
-ghost use Rattle.rc_work.specs.Printed.{spaced, kind_at, value_text, pair_text, pair_words, row_text, bounds_given, given, outs_of, reply_words, values_and_reply, words_text, step_words};
+ghost use Rattle.rc_work.specs.Printed.{spaced, kind_at, pair_text, pair_words, row_text, bounds_given, given, outs_of, reply_words, values_and_reply, step_words};
 ghost use Rattle.rc_work.specs.Report.{count_line, step_line};
 
 use rc_rel::Step;
@@ -225,18 +225,6 @@ fn outs_of(kind: &OpKind) -> &[u8]
         OpKind::Query { outs, ranges: _ } => outs.list(),
         OpKind::Insert | OpKind::Remove | OpKind::Update => &[],
     }
-}
-
-/// The text of a step: the operation, the call's values, `->` and the reply.
-pub fn print_step(alloc: Global, spec: &Spec, ranks: &Ranks, step: &Step) -> Result<Vec<u8>, Memory>
-    requires { Fits spec.now step.now.call }
-    ensures { IfOk result (λ text. text.items ≡ words_text (step_words spec.now ranks.now step.now)) }
-{
-    let op = spec.op(step.call.op);
-    let mut text = Vec::new(alloc);
-    push_bytes(&mut text, op.name.list())?;
-    push_values_and_reply(&mut text, spec, ranks, op, step)?;
-    Ok(text)
 }
 
 /// Appends the words of a step, each after a space.

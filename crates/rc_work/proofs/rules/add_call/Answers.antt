@@ -1,8 +1,5 @@
 use Rattle.std.proofs.Common.{◌≡◌, ◌<◌, get_or, length, List, rules, true, false, Some, sym, ap, ◌∙◌}
-use Rattle.rc_work.proofs.Imports.{Draft, Op, err_from_is_err_and, word_texts}
-use Rattle.rc_work.specs.CallPartsLaws.{call_unplaced, call_unread, call_given}
-use Rattle.rc_work.specs.LineRules.{op_number}
-use Rattle.rc_work.specs.LineRulesLaws.{ok}
+use Rattle.rc_work.proofs.Imports.{Draft, Op, err_from_is_err_and, word_texts, call_unplaced, call_unread, call_given, op_number, ok}
 use Rattle.rc_work.proofs.rules.add_call.Goals as goal
 
 pub returns-in_err-thread : goal.returns-in_err-thread

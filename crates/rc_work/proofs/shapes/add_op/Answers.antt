@@ -1,8 +1,5 @@
 use Rattle.std.proofs.Common.{◌≡◌, ◌+◌, rules, true, length, ◌∙◌}
-use Rattle.std.specs.Prelude.{unwrap_or}
-use Rattle.rc_work.proofs.Imports.{err_from_is_err_and, word_texts}
-use Rattle.rc_work.specs.CallPartsLaws.{op_unplaced, op_unread, op_given}
-use Rattle.rc_work.specs.ShapeRules.{shape_place}
+use Rattle.rc_work.proofs.Imports.{unwrap_or, err_from_is_err_and, word_texts, op_unplaced, op_unread, op_given, shape_place}
 use Rattle.rc_work.proofs.shapes.add_op.Goals as goal
 
 pub returns-in_err-thread-clause-taken : goal.returns-in_err-thread-clause-taken
