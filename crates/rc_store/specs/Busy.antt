@@ -1,5 +1,5 @@
 -- Why a call was refused. (PLDI 2012, well-locked query plans.)
-use Rattle.std.specs.Prelude.{◌≡◌, ℕ, ◌<◌, List, [], ◌∷◌, Some}
+use Rattle.std.specs.Prelude.{◌≡◌, ℕ, ◌<◌, ◌⊎◌, List, [], ◌∷◌, None, Some}
 use Rattle.rc_store.specs.Imports.{flat_map, In, gather, Call, Found, Mode, EdgeRow, edge_row_cmp, plan_at, eval, IsNamedBy, StripeLock, with_plans, Hold, Stop, group_locks, PassSeen, RowSeen, compiled_of, core_of, spec_of, KeepsOut}
 use Rattle.rc_machine.specs.declared.stop.Stop.TheVariants as stop
 use Rattle.rc_store.specs.declared.receipt.TryFault.{TryFault}
@@ -47,3 +47,8 @@ abbrev pub HasCause : RowSeen → List Call → PassSeen → PassSeen → TryFau
 HasCause row calls old new Memory = new.standing.refusals ≡ old.standing.refusals
 HasCause row calls old new (Busy stripe found) = AreBusy row calls old new stripe found
 HasCause row calls old new Spent = new ≡ old
+
+-- Memory ends a call that waits only where no step of it was refused, or where the pass wants nothing any more: it has taken since what it
+-- was refused, or gave it up since memory was wanted.
+abbrev pub IsForMemory : PassSeen → PassSeen → Type 0
+IsForMemory old new = (new.standing.refusals ≡ old.standing.refusals) ⊎ ((core_of new).wish ≡ None)

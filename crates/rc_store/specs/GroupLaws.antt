@@ -9,7 +9,7 @@ use Rattle.rc_core.specs.State.{locks_of as locks_held}
 use Rattle.rc_row.specs.Passes.{stripes_of as row_stripes}
 use Rattle.rc_store.specs.declared.lender.Refused.{Refused}
 use Rattle.rc_store.specs.Lending.{IsLentSo, IsOnTheWay, Lent, held_stripe, held_stripes, lending}
-use Rattle.rc_store.specs.LendingLaws.{all_now-held, all_taken-held, held_of-lending}
+use Rattle.rc_store.specs.LendingLaws.{all_now-held, all_taken-held, held_of-lending, none_refused}
 use Rattle.rc_store.specs.Prepared.{AreReady, IsReady}
 use Rattle.rc_store.specs.Store.{HoldsExactly}
 
@@ -27,7 +27,7 @@ pub lent_held : (waits : Bool) (lent : Option Lent) (row : RowSeen) (pass : Pass
     → refused ≡ None → spec ≡ spec_of row → holds_taken pass.held ≡ (core_of pass).held → HaveOneRelation (spec_of row) (core_of pass).held → IsLentSo waits lent row pass refused spec
 lent_held waits lent row pass refused spec e none s agrees one =
     subst (λ (x : Option Lent × Option Refused). IsLentSo waits x.0 row pass x.1 spec) (λ i. (sym e i, sym none i))
-    (record { spec_is = s; row_is = refl; way = at_held row pass agrees one; told = λ at_once. refl })
+    (record { spec_is = s; row_is = refl; way = at_held row pass agrees one; told = none_refused waits pass pass refl refl })
 
 -- what it holds is as taken
 pub as_taken_held : (row : RowSeen) (pass : PassSeen) (refused : Option Refused) (n : ℕ) → AreAtRest pass.held → AreAsTaken (held_of (lending row pass refused n))

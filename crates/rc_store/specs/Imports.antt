@@ -48,7 +48,7 @@ pub use Rattle.rc_plan.specs.Turns.{AllAreHeld, CallWithPlan, HasAcceptedPlan, w
 pub use Rattle.rc_plan.specs.declared.statement.Statement.{Statement}
 pub use Rattle.rc_rel.specs.Further.{Extends}
 pub use Rattle.rc_rel.specs.FurtherLaws.{histories_stay}
-pub use Rattle.rc_rel.specs.History.{AreLegalFrom, IsLegal, IsPlain, IsPrefix, StepsFit, after_steps, own, own_placed, placed, replay, with_replies}
+pub use Rattle.rc_rel.specs.History.{AreLegalFrom, IsLegal, IsPlain, IsPrefix, StepsFit, after_steps, own, own_placed, placed, replay, states, with_replies}
 pub use Rattle.rc_rel.specs.HistoryLaws.{replay_in_states, states_are_relations, states_satisfy, with_replies-parts}
 pub use Rattle.rc_rel.specs.OwnLaws.{none_own, own_length, same_places}
 pub use Rattle.rc_rel.specs.PlaceLaws.{legal_last}

@@ -1,5 +1,5 @@
 -- What the holder of a call tells its plan of a row and a pass. (PLDI 2012, two-phase plans over striped locks.)
-use Rattle.std.specs.Prelude.{◌≡◌, ℕ, suc, ◌<◌, Bool, false, List, map, replicate, Option, Some, None}
+use Rattle.std.specs.Prelude.{◌≡◌, ℕ, suc, ◌<◌, ◌⊎◌, Bool, false, List, map, replicate, Option, Some, None}
 use Rattle.rc_store.specs.Imports.{Spec, edge_table, HeldStripe, Holding, LentStripe, RefusedTake, Standing, HeldRows, PassSeen, RowSeen, core_of, holds_taken, spec_of, HaveOneRelation, KeepsOut, KeepsRefusals}
 use Rattle.rc_row.specs.Passes.{stripes_of}
 use Rattle.rc_store.specs.declared.lender.Refused.{Refused}
@@ -62,9 +62,11 @@ pub record IsRefusedAt (row : RowSeen) (begun now : PassSeen) (at : Refused) : T
   pub last : now.standing.last_refusal ≡ Some (record { stripe = at.answer.stripe; mode = at.mode; found = at.answer.found; held = holds_taken at.pass.value.held })
   pub found : KeepsOut at.mode row.key.passes (core_of begun).number at.answer.found
 
--- where nothing waits, no step was refused
-abbrev pub IsUnrefused : Bool → PassSeen → PassSeen → Type 0
-IsUnrefused waits old new = waits ≡ false → new.standing.refusals ≡ old.standing.refusals
+-- What the pass was refused, it has had since: it wants nothing, or no step was refused and it wants what it wanted. Where nothing waits,
+-- no step was refused.
+pub record IsUnrefused (waits : Bool) (old new : PassSeen) : Type 0 where
+  pub at_once : waits ≡ false → new.standing.refusals ≡ old.standing.refusals
+  pub wish : ((core_of new).wish ≡ None) ⊎ ((new.standing.refusals ≡ old.standing.refusals) × ((core_of new).wish ≡ (core_of old).wish))
 
 -- Refused takes are told only where nothing waits, and there all are.
 abbrev pub IsToldOf : Bool → RowSeen → PassSeen → PassSeen → Option Refused → Type 0

@@ -1,14 +1,16 @@
 -- What a holder of a pass tells, and what its calls leave of it.
-use Rattle.std.specs.Prelude.{◌≡◌, ℕ, suc, ◌-◌, ◌<◌, ◌≤◌, ◌==◌, Bool, true, false, List, [], ◌∷◌, map, length, cond, max, Option, None, Some, Result, Ok, Err, OnOk, OnErr, IfSome, All}
+use Rattle.std.specs.Prelude.{◌≡◌, ℕ, suc, ◌-◌, ◌<◌, ◌≤◌, ◌==◌, ◌⊎◌, Bool, true, false, List, [], ◌∷◌, map, length, cond, max, Option, None, Some, Result, Ok, Err, OnOk, OnErr, IfSome, All}
 use Rattle.std.proofs.Common.{refl, sym, ap, subst, ◌∙◌, inl, inr, arith}
 use Rattle.std.proofs.lemmas.List.{length-replicate}
 use Rattle.std.proofs.lemmas.List.Elements.{All-cons, All-contains, All-map, All-nil}
 use Rattle.std.proofs.lemmas.Simd.{map-map}
-use Rattle.rc_store.specs.Imports.{satisfies_none, In, in_contains, in_map, map_in, Pairs, Found, Mode, Exclusive, Spec, EdgeRow, stripe_total, Held, EdgeShape, HasColumns, HasNoRowOf, edge_row, edge_table, FragmentRows, with_promise, AreOfOneRelation, CanLower, CanRaise, CanRaiseNew, HasRefused, HasRisen, HasRoomFor, HeldStripe, IsHeld, IsHeldExclusive, IsLent, IsPartlyAddedAt, LentStripe, held_of, with_changes, with_changes_at, with_room, with_room_at, ArePartlyAdded, CanAddTuple, HasTuple, IsFirstKept, changed_by, changes_of_class, Hold, in_stripes, stripes_have, stripes_in_have, IsAbove, hold, stripes_in, writes_of, HeldRows, CanAddNewTo, CanAddTo, CanSubFrom, IsPartlyAddedOn, IsPassOf, OfHeld, PassSeen, RowSeen, core_of, holds_now, holds_taken, spec_of, with_fragment, with_held, with_standing, HaveOneRelation, turned_away, refusals_first, all_now, all_taken, hold_now, hold_taken}
+use Rattle.rc_store.specs.Imports.{satisfies_none, In, in_contains, in_map, map_in, Pairs, Found, Mode, Exclusive, Spec, EdgeRow, stripe_total, Held, EdgeShape, HasColumns, HasNoRowOf, edge_row, edge_table, FragmentRows, with_promise, AreOfOneRelation, CanLower, CanRaise, CanRaiseNew, HasRefused, HasRisen, HasRoomFor, HeldStripe, IsHeld, IsHeldExclusive, IsLent, IsPartlyAddedAt, LentStripe, held_of, with_changes, with_changes_at, with_room, with_room_at, ArePartlyAdded, CanAddTuple, HasTuple, IsFirstKept, changed_by, changes_of_class, Hold, in_stripes, stripes_have, stripes_in_have, IsAbove, hold, stripes_in, writes_of, HeldRows, CanAddNewTo, CanAddTo, CanSubFrom, IsPartlyAddedOn, IsPassOf, OfHeld, PassSeen, RowSeen, core_of, holds_now, holds_taken, spec_of, with_fragment, with_held, with_standing, with_taken, HaveOneRelation, turned_away, without_wish, refusals_first, all_now, all_taken, hold_now, hold_taken}
 use Rattle.rc_fragment.specs.Holder.{IsAbove as IsAboveHeld}
 use Rattle.rc_row.specs.Passes.{stripes_of}
+use Rattle.rc_store.specs.Busy.{IsForMemory}
 use Rattle.rc_store.specs.declared.lender.Refused.{Refused}
-use Rattle.rc_store.specs.Lending.{IsLentBy, IsLentSo, IsOnTheWay, IsToldOf, Lent, count_told, held_stripe, held_stripes, lending, lent_stripe, lent_stripes}
+use Rattle.rc_store.specs.Lending.{IsLentBy, IsLentSo, IsOnTheWay, IsToldOf, IsUnrefused, Lent, count_told, held_stripe, held_stripes, lending, lent_stripe, lent_stripes}
+use Rattle.rc_store.specs.Taking.{HasGivenUp, HasTakenStripe}
 
 -- ---- what is held
 
@@ -251,7 +253,7 @@ module _ (row : RowSeen) (pass : PassSeen) (refused : Option Refused) (n : ℕ) 
   }
     where
       told : (r : Option Refused) → IsToldOf waits row lent.begun pass r → IsToldOf waits row lent.begun (changed_so fragment) r
-      told None t = t
+      told None t = record { at_once = t.at_once; wish = t.wish }
       told (Some at) t = (t.0, record { risen = t.1.risen; last = t.1.last; found = t.1.found })
 
 -- changes at one stripe that leave table and rows as taken
@@ -339,6 +341,47 @@ some_of o x P e h = subst (λ o. IfSome o P) e h
 
 -- ---- the start of a call
 
+-- ---- refused steps, and what is wanted
+
+-- no step was refused, and nothing else is wanted
+pub none_refused : (waits : Bool) (old new : PassSeen) → new.standing.refusals ≡ old.standing.refusals → (core_of new).wish ≡ (core_of old).wish → IsUnrefused waits old new
+none_refused waits old new refusals wish = record { at_once = λ at_once. refusals; wish = inr (refusals, wish) }
+
+-- one run after another
+pub none_refused_then : (waits : Bool) (begun old new : PassSeen) → IsUnrefused waits begun old → IsUnrefused waits old new → IsUnrefused waits begun new
+none_refused_then waits begun old new one other = record { at_once = λ at_once. other.at_once at_once ∙ one.at_once at_once; wish = wanted one.wish other.wish }
+  where
+    wanted : ((core_of old).wish ≡ None) ⊎ ((old.standing.refusals ≡ begun.standing.refusals) × ((core_of old).wish ≡ (core_of begun).wish))
+        → ((core_of new).wish ≡ None) ⊎ ((new.standing.refusals ≡ old.standing.refusals) × ((core_of new).wish ≡ (core_of old).wish))
+        → ((core_of new).wish ≡ None) ⊎ ((new.standing.refusals ≡ begun.standing.refusals) × ((core_of new).wish ≡ (core_of begun).wish))
+    wanted before (inl none) = inl none
+    wanted (inl none) (inr same) = inl (same.1 ∙ none)
+    wanted (inr old_same) (inr same) = inr (same.0 ∙ old_same.0, same.1 ∙ old_same.1)
+
+-- a take that waited has taken all that it waited for
+pub unrefused_taken : (waits : Bool) (row : RowSeen) (mode : Mode) (stripe : ℕ) (begun old new : PassSeen) → IsUnrefused waits begun old → HasTakenStripe waits row mode stripe old new
+    → IsUnrefused waits begun new
+unrefused_taken waits row mode stripe begun old new u t = record {
+  at_once = λ at_once. ap (λ (q : PassSeen). q.standing.refusals) (t.is ∙ ap (with_taken (spec_of row) mode stripe t.rows) (t.waits_so.at_once at_once)) ∙ u.at_once at_once;
+  wish = inl (ap (λ (q : PassSeen). (core_of q).wish) t.is);
+}
+
+-- and one for which memory was wanted wants nothing
+pub unrefused_given_up : (waits : Bool) (row : RowSeen) (mode : Mode) (stripe : ℕ) (begun old new : PassSeen) → IsUnrefused waits begun old → HasGivenUp waits row mode stripe old new
+    → IsUnrefused waits begun new
+unrefused_given_up waits row mode stripe begun old new u g = record {
+  at_once = λ at_once. ap (λ (q : PassSeen). q.standing.refusals) (g.is ∙ ap (λ (q : PassSeen). with_standing (without_wish q.standing) q) (g.waits_so.at_once at_once)) ∙ u.at_once at_once;
+  wish = inl (ap (λ (q : PassSeen). (core_of q).wish) g.is);
+}
+
+-- so memory alone can have ended a call that waits
+pub is_for_memory : (waits : Bool) (old new : PassSeen) → IsUnrefused waits old new → IsForMemory old new
+is_for_memory waits old new u = either u.wish
+  where
+    either : ((core_of new).wish ≡ None) ⊎ ((new.standing.refusals ≡ old.standing.refusals) × ((core_of new).wish ≡ (core_of old).wish)) → IsForMemory old new
+    either (inl none) = inr none
+    either (inr same) = inl same.0
+
 -- a pass that holds nothing is on the way of a call that begins with it
 pub at_first : (row : RowSeen) (pass : PassSeen) → holds_taken pass.held ≡ (core_of pass).held → pass.held ≡ [] → IsOnTheWay row pass pass
 at_first row pass agrees idle = record {
@@ -356,7 +399,7 @@ at_first row pass agrees idle = record {
 pub lent_first : (waits : Bool) (lent : Option Lent) (row : RowSeen) (pass : PassSeen) (spec : Spec) → lent ≡ Some (record { row = row; begun = pass }) → spec ≡ spec_of row
     → holds_taken pass.held ≡ (core_of pass).held → pass.held ≡ [] → IsLentSo waits lent row pass None spec
 lent_first waits lent row pass spec e s agrees idle =
-    subst (λ (l : Option Lent). IsLentSo waits l row pass None spec) (sym e) (record { spec_is = s; row_is = refl; way = at_first row pass agrees idle; told = λ at_once. refl })
+    subst (λ (l : Option Lent). IsLentSo waits l row pass None spec) (sym e) (record { spec_is = s; row_is = refl; way = at_first row pass agrees idle; told = none_refused waits pass pass refl refl })
 
 -- a holder at the end, of the row that was lent
 pub lent_last : (waits : Bool) (lent : Option Lent) (row other : RowSeen) (begun now : PassSeen) (refused : Option Refused) (spec : Spec)

@@ -75,7 +75,7 @@ module _ (waits : Bool) (row : RowSeen) (begun old new : PassSeen) (taken : List
   busy_there locks found at_once e out m = record {
     mode = mode;
     held = (core_of old).held;
-    risen = (let same : old.standing.refusals ≡ begun.standing.refusals = at.unrefused at_once in
+    risen = (let same : old.standing.refusals ≡ begun.standing.refusals = at.unrefused.at_once at_once in
         let more : new.standing.refusals ≡ suc old.standing.refusals = ap (λ (q : PassSeen). q.standing.refusals) e in omega (arith, same, more));
     last = ap (λ (q : PassSeen). q.standing.last_refusal) e;
     found = subst (λ n. KeepsOut mode row.key.passes n found) (ap (λ (u : PassState). u.number) at.way.ran.core) out;

@@ -9,7 +9,7 @@ use Rattle.rc_machine.specs.declared.stop.Stop.TheVariants.{Held}
 use Rattle.rc_store.specs.Busy.{AreBusy, IsBusy, IsLockBusy}
 use Rattle.rc_store.specs.CommitLaws.{holds_what_is_named, may_commit, now_committed}
 use Rattle.rc_store.specs.Lending.{IsOnTheWay, IsUnrefused, held_stripes}
-use Rattle.rc_store.specs.LendingLaws.{all_now-held, all_taken-held, one_relation, still_of_row}
+use Rattle.rc_store.specs.LendingLaws.{all_now-held, all_taken-held, none_refused, none_refused_then, one_relation, still_of_row}
 use Rattle.rc_store.specs.Prepared.{HasGoneOn, IsPrepared, IsReady}
 use Rattle.rc_store.specs.Runs.{IsStoppedBy, IsStoppedFor}
 use Rattle.rc_store.specs.Store.{HasMade, HasMadeEntry, HasMadeGroup, HoldsExactly, IsAsBefore, IsCallFinished, IsFinished, IsFree, IsGroupFinished, IsReplyFor, StoreSeen, one_step}
@@ -97,9 +97,14 @@ module _ (waits : Bool) (row : RowSeen) (old reserved ran new : PassSeen) (room 
   are_busy_before (call ∷ []) stripe what e b = busy_before call stripe what e b
   are_busy_before (call ∷ (other ∷ calls)) stripe what e b = lock_busy_before (group_locks (spec_of row) (with_plans (compiled_of row).plans (call ∷ (other ∷ calls)))) stripe what e b
 
+  -- a run that was not refused, and the memory that was reserved before it
+  pub unrefused_so : IsUnrefused waits reserved ran → IsUnrefused waits old ran
+  unrefused_so u = none_refused_then waits old reserved ran
+      (none_refused waits old reserved (ap (λ (q : PassSeen). q.standing.refusals) room.is) (ap (λ (q : PassSeen). (core_of q).wish) room.is)) u
+
   unrefused_before : new ≡ idle ran → IsUnrefused waits reserved ran → IsUnrefused waits old new
-  unrefused_before e none at_once =
-      ap (λ (q : PassSeen). q.standing.refusals) e ∙ none at_once ∙ ap (λ (q : PassSeen). q.standing.refusals) room.is
+  unrefused_before e u = none_refused_then waits old ran new (unrefused_so u)
+      (none_refused waits ran new (ap (λ (q : PassSeen). q.standing.refusals) e) (ap (λ (q : PassSeen). (core_of q).wish) e))
 
   pub cause_before : (calls : List Call) (s : Stop) → new ≡ idle ran → IsStoppedFor waits row calls reserved ran s → IsStoppedFor waits row calls old new s
   cause_before calls Memory e cause = unrefused_before e cause
@@ -110,10 +115,6 @@ module _ (waits : Bool) (row : RowSeen) (old reserved ran new : PassSeen) (room 
       → IsStoppedBy waits (IsLockBusy row locks old new) old new s
   stopped_before locks Memory e cause = unrefused_before e cause
   stopped_before locks (Held h) e cause = (cause.0, lock_busy_before locks h.stripe h.found e cause.1)
-
-  -- and one that answered
-  pub unrefused_so : IsUnrefused waits reserved ran → IsUnrefused waits old ran
-  unrefused_so none at_once = none at_once ∙ ap (λ (q : PassSeen). q.standing.refusals) room.is
 
   -- one that is ready was prepared
   pub since_so : HasGoneOn old ran

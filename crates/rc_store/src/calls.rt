@@ -3,7 +3,7 @@
 ghost use Rattle.std.specs.Prelude.{◌≡◌, ◌<◌, ◌↔◌, [], ◌∷◌, Err, IfErr, IfOk, IsTrue, OnErr, length};
 ghost use Rattle.rc_row.specs.Passes.{core_of};
 ghost use Rattle.rc_row.specs.declared.keeping.Keeping.TheVariants.{Counts};
-ghost use Rattle.rc_store.specs.Busy.{HasCause};
+ghost use Rattle.rc_store.specs.Busy.{HasCause, IsForMemory};
 ghost use Rattle.rc_store.specs.Runs.{IsStoppedFor};
 ghost use Rattle.rc_store.specs.Store.{HasMade, HasReceipt, IsAsBefore, IsFree, MayCall, receipt_at};
 ghost use Rattle.rc_store.specs.declared.receipt.TryFault.TheVariants as fault;
@@ -106,7 +106,8 @@ impl<W: Wakes> Store<W> {
 
 impl Store<Waking> {
     /// Makes a call as `try_call` does, and waits where something is in the way. If it returns, it answers as said; nothing
-    /// is promised of when. The gate is told of each point that it reaches.
+    /// is promised of when. `Memory` comes only where no step of this call was refused, or where the pass has taken since what
+    /// it was refused, or gave it up since memory was wanted. The gate is told of each point that it reaches.
     pub fn call<R: Wait, G: Gate>(
         &self,
         rt: &R,
@@ -120,6 +121,7 @@ impl Store<Waking> {
         ensures before { IfErr result (λ _. IsAsBefore pass.old pass.new) }
         ensures spent { result ≡ Err waited.Spent ↔ length (core_of pass.old).own ≡ self.now.limit }
         ensures first { result ≡ Err waited.Spent → pass.new ≡ pass.old }
+        ensures memory { result ≡ Err waited.Memory → IsForMemory pass.old pass.new }
     {
         if self.is_spent(pass) {
             return Err(CallFault::Spent);

@@ -4,7 +4,7 @@ ghost use Rattle.std.specs.Prelude.{◌≡◌, ◌<◌, ◌≤◌, ◌↔◌, []
 ghost use Rattle.std.specs.List.{AllByRecursion};
 ghost use Rattle.rc_spec.specs.Calls.{Fits};
 ghost use Rattle.rc_row.specs.Passes.{IsPassOf, core_of, spec_of};
-ghost use Rattle.rc_store.specs.Busy.{HasCause};
+ghost use Rattle.rc_store.specs.Busy.{HasCause, IsForMemory};
 ghost use Rattle.rc_store.specs.Lending.{IsUnrefused};
 ghost use Rattle.rc_store.specs.Prepared.{ArePrepared};
 ghost use Rattle.rc_store.specs.Runs.{IsStoppedFor};
@@ -171,7 +171,8 @@ impl<W: Wakes> Store<W> {
 
 impl Store<Waking> {
     /// Makes calls as one as `try_group` does, and waits where something is in the way. If it returns, it answers as said;
-    /// nothing is promised of when. While it holds all that it wants it waits for nobody. The gate is told of each point
+    /// nothing is promised of when, and `Memory` has the causes that it has of `call`. While it holds all that it wants it
+    /// waits for nobody. The gate is told of each point
     /// that it reaches: BeforeCommit when all replies are known.
     pub fn call_group<R: Wait, G: Gate>(
         &self,
@@ -186,6 +187,7 @@ impl Store<Waking> {
         ensures before { IfErr result (λ _. IsAsBefore pass.old pass.new) }
         ensures spent { result ≡ Err waited.Spent ↔ length (core_of pass.old).own ≡ self.now.limit }
         ensures first { result ≡ Err waited.Spent → pass.new ≡ pass.old }
+        ensures memory { result ≡ Err waited.Memory → IsForMemory pass.old pass.new }
     {
         if self.is_spent(pass) {
             return Err(CallFault::Spent);

@@ -1,4 +1,5 @@
 use Rattle.rc_store.proofs.Imports.{List, sym, subst, IsCompiled, SpecWithPlans, StripeLock, Suffice, compiled_of, held_stripes, few_on, group_ready, held_rise, locks_inside, locks_rise, locks_suffice, spare_on}
+use Rattle.rc_store.specs.LendingLaws.{none_refused_then}
 use Rattle.rc_store.proofs.group_run.lock_and_run.Given.{Over}
 use Rattle.rc_store.proofs.group_run.lock_and_run.Goals.{After-accepted}
 use Rattle.rc_store.proofs.group_run.lock_and_run.Goals as goal
@@ -40,3 +41,7 @@ returns-clause-ready g c =
     group_ready row ok c.args.calls.now c.args.locks.now c.requires.locks c.requires.fit c.requires.several c.requires.few mid new c.in_ok-run_calls.field-0.items
     (few_on row mid new way (few_on row old mid taken.way c.requires.left)) (spare_on row mid new way (spare_on row old mid taken.way c.requires.room))
     way.agrees way.one taken.locks c.in_ok-run_calls.ensures.ran
+
+pub returns-clause-unrefused : goal.returns-clause-unrefused
+returns-clause-unrefused g c =
+    none_refused_then g.T.Takes.waits c.args.pass.now c.take_locks.new.pass c.run_calls.new.pass c.in_ok-take_locks.ensures.taken.unrefused c.run_calls.ensures.unrefused

@@ -49,7 +49,7 @@ returns-in-Ok-clause-made g c =
     let new : OpenGroupSeen = open_group c.self.inside.begun.value c.call_on.new.pass c.self.inside.locks.items c.in-Ok.took.items (steps_in c.in-Ok.prepared) in
     subst (λ (o : OpenGroupSeen). HasCalledOn c.args.store.now c.args.call.now o new) c.self.view_is
     (called_on c.args.store.now (open_group_seen c.self.inside) (open_within g at.After-covers) new c.args.call.now c.requires.fits (covers g at.After-call_on) (few g at.After-covers)
-    c.call_on.ensures.pass c.call_on.ensures.way (c.call_on.ensures.unrefused refl) refl refl c.in-Ok.ensures.ran)
+    c.call_on.ensures.pass c.call_on.ensures.way (c.call_on.ensures.unrefused.at_once refl) refl refl c.in-Ok.ensures.ran)
 
 pub returns-in-Err-clause-back : goal.returns-in-Err-clause-back
 returns-in-Err-clause-back g c =
@@ -61,5 +61,5 @@ returns-in-Err-clause-back g c =
       subst (λ (o : OpenGroupSeen). length o.steps < 16) c.self.view_is (few g at.After-covers),
       subst (λ (o : OpenGroupSeen). Covers (compiled_of c.args.store.now.row) c.args.call.now o.locks) c.self.view_is (covers g at.After-call_on),
       subst (λ (o : OpenGroupSeen). c.give_back.new.pass.standing.refusals ≡ o.pass.standing.refusals) c.self.view_is
-          (ap (λ (p : PassSeen). p.standing.refusals) c.give_back.ensures.value ∙ c.call_on.ensures.unrefused refl),
+          (ap (λ (p : PassSeen). p.standing.refusals) c.give_back.ensures.value ∙ c.call_on.ensures.unrefused.at_once refl),
     )

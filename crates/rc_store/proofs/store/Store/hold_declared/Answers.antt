@@ -41,7 +41,7 @@ returns-in-Ok-clause-held g c =
       locks_are = taken.locks ∙ c.deref.ensures.value;
       rising = locks_rise row (compiled_so g at) c.args.declared.now c.group_locks.new.locks.items (listed g at);
       unchanged = rest_unchanged new.held taken.rest;
-      unrefused = taken.unrefused refl ∙ ap (λ (q : PassSeen). q.standing.refusals) c.reserve.ensures.same.is;
+      unrefused = taken.unrefused.at_once refl ∙ ap (λ (q : PassSeen). q.standing.refusals) c.reserve.ensures.same.is;
     })
 
 pub returns-in-Err-clause-cause : goal.returns-in-Err-clause-cause
