@@ -29,6 +29,7 @@
 --   good reports        rc_audit: GoodReports (IsGoodReport, IsVerdict)
 use Rattle.std.specs.Prelude.{◌≡◌, ◌↔◌, ℕ, suc, ◌<◌, List, [], ◌∷◌, ◌++◌, ◌⊎◌, Option, None, Some, Result, Ok, Err}
 use Rattle.rc_answer.specs.Imports.{flat_map, slice_get, In, Satisfies, Pairs, ContentLine, bytes_of_content, past_end_of, printed_lines, Adds, Refusal, Spec, IsAccepted, IsFirstBroken, Statement, PlanRefusal, AllKeepRules, AreChosen, IsFirstRefused, HandReading, hands_reading, plan_refusal_text, Hand, Entry, AllFit, AreLegalFrom, after_steps, calls_of, own, relation_at, replay, shapes_text, Broken, Reading, spec_of, spec_reading, version_number, Also, Nothing, OpenWork, Work, open_reading, WorkPart, part_reading, work_reading, report, HasSingleSteps, MakesRounds, thread_calls, thread_turns, turns_of, with_operations, place_after, Form, Verdict, IsGoodReport, IsVerdict}
+use Rattle.rc_rel.specs.History.{states as states_of}
 use Rattle.rc_spec.specs.RefusalText as rules
 use Rattle.rc_handplan.specs.HandGrammar as hand_lines
 use Rattle.rc_answer.specs.declared.outcome.Outcome.{Outcome}
@@ -59,8 +60,8 @@ pub record IsOneLegalHistory (also : Also) (spec : Spec) (work : Work) (journal 
   pub threads : (entry : Entry) → In entry journal → entry.pass < work.threads
   -- and after all calls of earlier rounds
   pub rounds : MakesRounds work.rounds journal
-  -- every state satisfies the dependencies
-  pub states : (place : ℕ) → Satisfies (relation_at spec journal place) spec.deps
+  -- every state, which is the relation after a call, and the empty one, satisfies the dependencies
+  pub states : (r : List Pairs) → In r (states_of spec journal) → Satisfies r spec.deps
 
 -- ---- the ends of a text
 

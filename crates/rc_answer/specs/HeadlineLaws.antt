@@ -1,6 +1,6 @@
 -- The headline holds of what `run`, `group`, `hand` and `check` answer with the status Done or Refused, and `audit` also with Bad.
 use Rattle.std.proofs.Common.{◌≡◌, ◌↔◌, ℕ, suc, ◌+◌, List, [], ◌∷◌, ◌++◌, take, drop, Option, Some, None, Result, Ok, Err, refl, sym, ap, subst, ◌∙◌, inl, inr, arith}
-use Rattle.rc_answer.specs.Imports.{IfSome, IsSome, slice_get, In, append_in_right, Pairs, ContentLine, TextPlace, bytes_of_content, past_end_of, printed_lines, Adds, Spec, refused_not_accepted, plain, op_at, SpecWithPlans, refused_law, PlanRefusal, Statement, AllKeepRules, AreChosen, IsFirstRefused, HandReading, hands_reading, plan_refusal_text, Hand, Entry, Step, AllFit, AreLegalFrom, IsLegal, after_steps, relation_at, replay, steps_of, replay_in_states, states_satisfy, steps_of-append, legal_last, shapes_text, Broken, Reading, spec_of, spec_reading, version_number, Also, Nothing, OpenWork, Work, open_reading, IsDraft-reading_all, HasThreads, HasSingleTurns, WorkPart, part_reading, parts_are_works, work_by, work_of, work_reading, HasThreads-work_with, report, HasSingleSteps, Runs, runs_make_calls, runs_make_turns, single_turns_are_single_steps, with_operations, place_after, draft_of, reading_all, Form, Verdict, IsGoodReport, IsVerdict, one_verdict, Check}
+use Rattle.rc_answer.specs.Imports.{IfSome, IsSome, slice_get, In, append_in_right, Pairs, ContentLine, TextPlace, bytes_of_content, past_end_of, printed_lines, Adds, Spec, refused_not_accepted, plain, op_at, SpecWithPlans, refused_law, PlanRefusal, Statement, AllKeepRules, AreChosen, IsFirstRefused, HandReading, hands_reading, plan_refusal_text, Hand, Entry, Step, AllFit, AreLegalFrom, IsLegal, after_steps, relation_at, replay, steps_of, states_satisfy, steps_of-append, legal_last, shapes_text, Broken, Reading, spec_of, spec_reading, version_number, Also, Nothing, OpenWork, Work, open_reading, IsDraft-reading_all, HasThreads, HasSingleTurns, WorkPart, part_reading, parts_are_works, work_by, work_of, work_reading, HasThreads-work_with, report, HasSingleSteps, Runs, runs_make_calls, runs_make_turns, single_turns_are_single_steps, with_operations, place_after, draft_of, reading_all, Form, Verdict, IsGoodReport, IsVerdict, one_verdict, Check}
 use Rattle.std.proofs.lemmas.List.{append_assoc, take-append-drop, take_more}
 use Rattle.std.proofs.lemmas.Option.{get_or_from_slice_get, slice_get_within}
 use Rattle.rc_spec.specs.RefusalText as rules
@@ -65,7 +65,7 @@ one_legal_history also spec work journal run single fit = record {
   single = single;
   threads = run.threads;
   rounds = run.rounds;
-  states = λ place. states_satisfy spec (take place journal) (replay spec (take place journal)) (replay_in_states spec (take place journal));
+  states = states_satisfy spec journal;
 }
 
 -- ---- what was read is one

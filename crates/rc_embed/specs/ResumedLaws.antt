@@ -1,7 +1,7 @@
 -- The one history goes on where a closed store does, by the specification of the later texts. (PLDI 2012, serializable
 -- transactions.)
-use Rattle.std.proofs.Common.{◌≡◌, ℕ, List, Some, sym, ap, ◌∙◌, subst}
-use Rattle.rc_embed.specs.Imports.{slice_get, Entry, Step, IsPrefix, own_placed, replay, replay_in_states, states_satisfy, PassState, PassSeen, spec_of, ClosedSeen, HasClosed, IsReceipt, entries_are_plain, KnowsAll, resumed_histories_are_one, HasMadeEntry, StoreSeen}
+use Rattle.std.proofs.Common.{◌≡◌, ℕ, List, [], ◌∷◌, ◌++◌, Some, sym, ap, ◌∙◌, subst}
+use Rattle.rc_embed.specs.Imports.{slice_get, Entry, Step, IsPrefix, own_placed, states_satisfy, PassState, next_of, PassSeen, core_of, spec_of, ClosedSeen, HasClosed, IsReceipt, entries_are_plain, KnowsAll, resumed_histories_are_one, HasMadeEntry, StoreSeen}
 use Rattle.rc_embed.specs.declared.opening.Options as asked
 use Rattle.rc_embed.specs.OfText.{IsBehind, IsHistoryOfText}
 use Rattle.rc_embed.specs.Opened.{OpenSeen}
@@ -21,7 +21,7 @@ receipt_of store steps old new place nth made = record {
     own = ap (λ (u : PassState). u.own) (sym made.was) ∙ made.at.of.own ∙ ap (λ (u : PassState). own_placed made.before u.number) made.was;
     replies = (entries_are_plain store steps old new place nth made).0;
     relation = (entries_are_plain store steps old new place nth made).1;
-    satisfies = states_satisfy (spec_of store.row) made.before (replay (spec_of store.row) made.before) (replay_in_states (spec_of store.row) made.before);
+    satisfies = states_satisfy (spec_of store.row) (made.before ++ next_of (core_of old) steps ∷ []);
   };
   told = made.known;
 }

@@ -12,7 +12,7 @@
 --   receipts       rc_store: Store (HasMadeEntry, HasMade, HasMadeGroup, IsAsBefore), Receipts (how a pass was told); rc_row: Passes (HasLookedAt, with_note)
 --   the end        rc_store: Closed (HasClosed, Leaves)
 use Rattle.std.specs.Prelude.{◌≡◌, ℕ, List, [], ◌∷◌, ◌++◌, All, Some, length}
-use Rattle.rc_store.specs.Imports.{slice_get, In, Satisfies, Spec, Entry, Step, AreLegalFrom, IsPrefix, after_steps, own_placed, replay, next_of, IsGoodHistory, PassState, PassSeen, core_of, spec_of, Call, Reply, with_replies}
+use Rattle.rc_store.specs.Imports.{slice_get, In, Pairs, Satisfies, Spec, Entry, Step, AreLegalFrom, IsPrefix, after_steps, own_placed, replay, states, next_of, IsGoodHistory, PassState, PassSeen, core_of, spec_of, Call, Reply, with_replies}
 use Rattle.rc_store.specs.Closed.{ClosedSeen, HasClosed}
 use Rattle.rc_store.specs.declared.receipt.GroupReceipt.{GroupReceipt}
 use Rattle.rc_store.specs.declared.receipt.Receipt.{Receipt}
@@ -29,10 +29,11 @@ pub record IsAtPlace (spec : Spec) (passes : ℕ) (pass : PassState) (told : Lis
   -- it goes on from all that the pass had been told of, and has all that the pass had made
   pub goes_on : All (λ earlier. IsPrefix earlier before) told
   pub own : pass.own ≡ own_placed before pass.number
-  -- the replies are the plain relation's in turn, which goes on as the plain one does, and every state satisfies the dependencies
+  -- the replies are the plain relation's in turn, which goes on as the plain one does, and every state up to the last call, also one
+  -- between calls of the entry, satisfies the dependencies
   pub replies : AreLegalFrom spec (replay spec before) steps
   pub relation : replay spec (before ++ next_of pass steps ∷ []) ≡ after_steps spec (replay spec before) steps
-  pub satisfies : Satisfies (replay spec before) spec.deps
+  pub satisfies : (r : List Pairs) → In r (states spec (before ++ next_of pass steps ∷ [])) → Satisfies r spec.deps
 
 -- the history up to the calls, and with them
 abbrev pub history_of : {spec : Spec} {passes : ℕ} {pass : PassState} {told : List (List Entry)} {steps : List Step} {place : ℕ}

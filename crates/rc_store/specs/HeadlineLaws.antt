@@ -1,6 +1,6 @@
 -- The headline of a store, from its laws.
-use Rattle.std.specs.Prelude.{◌≡◌, ℕ, List, Some}
-use Rattle.rc_store.specs.Imports.{slice_get, In, in_contains, Entry, Step, IsPrefix, own_placed, replay, replay_in_states, states_satisfy, PassState, next_of, PassSeen, core_of, spec_of, with_replies}
+use Rattle.std.specs.Prelude.{◌≡◌, ℕ, List, [], ◌∷◌, ◌++◌, Some}
+use Rattle.rc_store.specs.Imports.{slice_get, In, in_contains, Entry, Step, IsPrefix, own_placed, states_satisfy, PassState, next_of, PassSeen, core_of, spec_of, with_replies}
 use Rattle.std.proofs.Common.{sym, ap, ◌∙◌}
 use Rattle.std.proofs.lemmas.List.Elements.{All-contains}
 use Rattle.rc_store.specs.Closed.{ClosedSeen, HasClosed}
@@ -18,7 +18,7 @@ receipt_is store steps old new place nth made = record {
     own = ap (λ (u : PassState). u.own) (sym made.was) ∙ made.at.of.own ∙ ap (λ (u : PassState). own_placed made.before u.number) made.was;
     replies = (entries_are_plain store steps old new place nth made).0;
     relation = (entries_are_plain store steps old new place nth made).1;
-    satisfies = states_satisfy (spec_of store.row) made.before (replay (spec_of store.row) made.before) (replay_in_states (spec_of store.row) made.before);
+    satisfies = states_satisfy (spec_of store.row) (made.before ++ next_of (core_of old) steps ∷ []);
   };
   told = made.known;
 }
