@@ -363,3 +363,15 @@ ON_FRAME(learn)
 ON_FRAME(row)
 ON_FRAME(cancel)
 ON_SESSION(rows, (relc_session *session, relc_page *page), page, (session, page))
+
+uint32_t relc_unchecked_tell(relc_session *from, relc_session *to);
+uint32_t relc_tell(relc_session *from, relc_session *to)
+{
+    struct handle *tells = enter(__func__, from, SESSION), *hears = enter(__func__, to, SESSION);
+    if (tells->of != hears->of)
+        stop(__func__, "the session is of another ", KINDS[STORE]);
+    uint32_t code = relc_unchecked_tell(from, to);
+    leave(hears);
+    leave(tells);
+    return code;
+}

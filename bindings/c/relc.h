@@ -317,6 +317,12 @@ uint32_t relc_pick(relc_session *session, relc_frame *frame);
  * Else RELC_PREPARED. */
 uint32_t relc_learn(relc_session *session, relc_frame *frame);
 
+/* Tells the session `to`, which is another one of the same store, all that `from` was told of the history: its
+ * own calls, and what others told it. Later calls of `to` stand after all of it. RELC_DONE, or RELC_PREPARED
+ * where one of the two has something prepared or open, and nothing changes. It takes no memory. Both sessions
+ * are used for the call: no other thread may use one of them meanwhile. */
+uint32_t relc_tell(relc_session *from, relc_session *to);
+
 /* Copies row `row` into `cells`: of the reply of what is prepared or open, where something is, else of
  * the call or the group that was made last; of a group that of the first call, of an open one that of the
  * last, or of the one that relc_pick picked. RELC_DONE or RELC_NO_ROW, also where an open group has made

@@ -234,6 +234,27 @@ static void test_calls(void)
     relc_close_session(session);
 }
 
+/* One session tells another one what it was told of, but not while something is prepared. */
+static void test_tell(void)
+{
+    relc_store *store = opened(2, 1ull << 48);
+    relc_session *one = NULL, *other = NULL;
+    CHECK(relc_open_session(store, &one) == RELC_DONE && relc_open_session(store, &other) == RELC_DONE);
+    relc_operation_frame ins = operation(store, "ins");
+    relc_frame frame = {0};
+    ask(&frame, ins.op, 3, 1, 2, 10);
+    CHECK(relc_try_call(one, &frame) == RELC_DONE && frame.place == 0);
+    CHECK(relc_begin(one, &frame) == RELC_DONE);
+    CHECK(relc_tell(one, other) == RELC_PREPARED && relc_tell(other, one) == RELC_PREPARED);
+    CHECK(relc_cancel(one, &frame) == RELC_DONE);
+    CHECK(relc_tell(one, other) == RELC_DONE);
+    CHECK(relc_try_call(other, &frame) == RELC_DONE && frame.kind == RELC_PRESENT && frame.place == 1);
+    CHECK(relc_tell(other, one) == RELC_DONE);
+    relc_close_session(other);
+    relc_close_session(one);
+    relc_close_store(store);
+}
+
 /* The kinds of a reply that the one above doesn't have. */
 static void test_many_and_conflicts(void)
 {
@@ -837,6 +858,7 @@ int main(void)
 {
     test_opening();
     test_calls();
+    test_tell();
     test_many_and_conflicts();
     test_pages();
     test_version_two();

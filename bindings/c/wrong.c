@@ -82,6 +82,23 @@ static void give_back_to_another(void)
     relc_give_back(other, session);
 }
 
+static relc_session *begun_by(relc_store *of)
+{
+    relc_session *begun = NULL;
+    CHECK(relc_open_session(of, &begun) == RELC_DONE);
+    return begun;
+}
+
+static void tell_one_of_another(void)
+{
+    relc_tell(session, begun_by(other));
+}
+
+static void tell_itself(void)
+{
+    relc_tell(session, session);
+}
+
 static void call_an_operation_of_another(void)
 {
     relc_operation_frame asked = {.length = 3, .name = "put"};
@@ -172,6 +189,8 @@ static const struct {
     {close_twice, "relc_close_store: this is no open store\n"},
     {open_by_a_session, "relc_open_session: this is no open store\n"},
     {give_back_to_another, "relc_give_back: the session is of another store\n"},
+    {tell_one_of_another, "relc_tell: the session is of another store\n"},
+    {tell_itself, "relc_tell: another call uses the session\n"},
     {call_an_operation_of_another, "relc_try_call: the operation is of another store\n"},
     {call_on_two_threads, "relc_try_call: another call uses the session\n"},
     {open_by_one_that_was_closed, "relc_open_session: this is no open store\n"},

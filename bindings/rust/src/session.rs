@@ -553,6 +553,27 @@ impl Session {
         self.see(seen.length)
     }
 
+    /// Tells another session of the store all that this one was told of the history: its own calls,
+    /// and what others told it. Later calls of the other come after all of it.
+    ///
+    /// `Foreign` where the other is of another store. Then nothing changes.
+    pub fn tell(&mut self, other: &mut Session) -> Result<(), Error> {
+        if other.store() != self.store() {
+            return Err(Error::Foreign);
+        }
+        // SAFETY: each `&mut` lets one call at a time use its session, and both are of one store.
+        let code = unsafe {
+            sys::relc_tell(
+                self.begun.handle.as_ptr(),
+                other.begun.handle.as_ptr(),
+            )
+        };
+        match code {
+            sys::DONE => Ok(()),
+            code => Err(self.error(code)),
+        }
+    }
+
     fn see(&mut self, length: u64) -> Result<Seen, Error> {
         self.frame.seen = length;
         match self.ask_frame(sys::relc_learn) {

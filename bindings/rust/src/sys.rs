@@ -226,6 +226,7 @@ unsafe extern "C" {
     pub fn relc_row(session: *mut c_void, frame: *mut Frame) -> u32;
     pub fn relc_rows(session: *mut c_void, page: *mut Page) -> u32;
     pub fn relc_learn(session: *mut c_void, frame: *mut Frame) -> u32;
+    pub fn relc_tell(from: *mut c_void, to: *mut c_void) -> u32;
     pub fn relc_close_store(store: *mut c_void);
     pub fn relc_close_session(session: *mut c_void);
     pub fn relc_give_back(store: *mut c_void, session: *mut c_void) -> u32;

@@ -488,6 +488,23 @@ fn learns() {
 }
 
 #[test]
+fn tells() {
+    let graph = graph(Options::sessions(2));
+    let mut one = graph.store.session().unwrap();
+    let mut other = graph.store.session().unwrap();
+    let (_, told) = one.call_placed(graph.ins, [1, 2, 3]).unwrap();
+    assert_eq!(one.tell(&mut other), Ok(()));
+    let (_, after) = other.call_placed(graph.del, [1, 2]).unwrap();
+    assert!(after.place > told.place);
+    let elsewhere = common::graph(Options::sessions(1));
+    let mut foreign = elsewhere.store.session().unwrap();
+    assert_eq!(one.tell(&mut foreign), Err(Error::Foreign));
+    let prepared = other.begin(graph.ins, [1, 2, 4]).unwrap();
+    drop(prepared);
+    assert_eq!(other.tell(&mut one), Ok(()));
+}
+
+#[test]
 fn sessions_outlive_their_store() {
     let graph = graph(Options::sessions(2));
     let mut session = graph.store.session().unwrap();

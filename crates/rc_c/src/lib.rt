@@ -27,10 +27,12 @@ ghost use Rattle.rc_c.specs.Answered.{AnswersSession, lies_again};
 ghost use Rattle.rc_c.specs.Closing.{AnswersClosed, AnswersResumed, left_at};
 ghost use Rattle.rc_c.specs.GivenBack.{AnswersGivenBack, Handles, HasSettled};
 ghost use Rattle.rc_c.specs.HandedOut.{HasOpenedThis, hands_out, lies_again_beside};
+ghost use Rattle.rc_c.specs.Telling.{AnswersTold, IsTold, Two};
 
 use rc_embed::{
-    ClosedPlace, DONE, Frame, MEMORY, NotClosed, NotPrepared, OpenFrame, OpenStore, OperationFrame,
-    Page, Session, ShapeFrame, TextPage, open_by, open_with_by, open_with_plans_by, session_code,
+    ClosedPlace, DONE, Frame, MEMORY, NotClosed, NotIdle, NotPrepared, OpenFrame, OpenStore,
+    OperationFrame, PREPARED, Page, Session, ShapeFrame, TextPage, open_by, open_with_by,
+    open_with_plans_by, session_code,
 };
 use std::alloc::Global;
 
@@ -485,6 +487,30 @@ pub unsafe extern "C" fn relc_learn(session: *mut u8, frame: &mut Frame) -> u32
         (λ after. AnswersLearn held frame.old after frame.new result)) }
 {
     learn_on(&mut *(session as *mut Session), frame)
+}
+
+/// Tells the second session all that the first was told of the history.
+fn tell_on(from: &mut Session, to: &mut Session) -> u32
+    requires { to.old.store ≡ from.old.store }
+    ensures { AnswersTold from.old to.old from.new to.new result }
+{
+    match from.tell(to) {
+        Ok(()) => DONE,
+        Err(NotIdle) => PREPARED,
+    }
+}
+
+/// Tells the session at the second pointer all that the one at the first was told of the history. Both are of one store.
+#[unsafe(no_mangle)]
+pub unsafe extern "C" fn relc_tell(from: *mut u8, to: *mut u8) -> u32
+    ghost held: { Two }
+    requires one { held.to.store ≡ held.from.store }
+    requires* from { sem 𝓛 (lies_at sessions.the_row full_share from held.from) }
+    requires* to { sem 𝓛 (lies_at sessions.the_row full_share to held.to) }
+    ensures* from { sem 𝓛 (lies_again sessions.the_row from (λ after. after ≡ held.from)) }
+    ensures* to { sem 𝓛 (lies_again sessions.the_row to (λ after. IsTold held after result)) }
+{
+    tell_on(&mut *(from as *mut Session), &mut *(to as *mut Session))
 }
 
 /// Drops the store.

@@ -2,6 +2,7 @@
 -- transactions over striped locks.)
 use Rattle.std.specs.Prelude.{◌≡◌, ℕ, ◌<◌, ◌≤◌, List, [], ◌∷◌, Option, Some, None}
 use Rattle.rc_embed.specs.Imports.{slice_get, Call, Reply, Step, PassState, HasLookedAt, PassSeen, compiled_of, core_of, spec_of, HoldsDeclared, IsOpenOn, OpenGroupSeen, HasBegunGroup, IsGroupRunningOn, IsRunningOn, RunningGroupSeen, RunningSeen, AreRepliesFor, HasMadeEntry, HasMadeGroup, HoldsExactly, IsAsBefore, IsFree, StoreSeen, one_step, GroupReceipt, Position}
+use Rattle.rc_row.specs.Passes.{note_of, with_note}
 use Rattle.rc_store.specs.Running.{replies_of as replies_with}
 use Rattle.rc_embed.specs.declared.session.Last.{Last}
 use Rattle.rc_embed.specs.declared.session.Last.TheVariants as lasts
@@ -195,6 +196,16 @@ pub record IsUnseenBy (old : SessionSeen) (told : ℕ) (new : SessionSeen) : Typ
   pub length : ℕ
   pub looked : HasLooked old length new
   pub shorter : length < told
+
+-- it was told all that another one was told of, and has seen what that one has
+pub record HasHeard (from old new : SessionSeen) : Type 0 where
+  pub by : PassSeen
+  pub before : PassSeen
+  pub tells : from.state ≡ Idle by
+  pub was : old.state ≡ Idle before
+  pub is : new.state ≡ Idle (with_note (note_of by) before)
+  pub last : new.last ≡ old.last
+  pub picked : new.picked ≡ old.picked
 
 -- ---- what faults leave
 

@@ -140,6 +140,10 @@ pub enum OpenCallFault {
 #[derive(Clone, Copy, Debug, PartialEq, Eq)]
 pub struct NotPrepared;
 
+/// A call or a group is prepared, or a group is open. The sessions are as before.
+#[derive(Clone, Copy, Debug, PartialEq, Eq)]
+pub struct NotIdle;
+
 impl From<Memory> for CallFault {
     ghost from_gives = { λ _ fault. fault ≡ call_faults.Memory };
 

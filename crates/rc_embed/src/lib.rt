@@ -30,10 +30,11 @@ mod telling;
 mod text_page;
 
 pub use closing::CloseBack;
-pub use codes::{DONE, MEMORY};
+pub use codes::{DONE, MEMORY, PREPARED};
 pub use declaring::Declared;
 pub use fault::{
-    CallFault, LearnFault, NotPrepared, OpenCallFault, OpenFault, ResumeFault, SessionFault,
+    CallFault, LearnFault, NotIdle, NotPrepared, OpenCallFault, OpenFault, ResumeFault,
+    SessionFault,
 };
 pub use frame::{Frame, MAX_CELLS, MAX_PAGE, MAX_VALUES, Page};
 pub use group::{Asked, MAX_GROUP};

@@ -1,10 +1,10 @@
 //! What sessions tell each other.
 
-ghost use Rattle.std.specs.Prelude.{◌≡◌, ◌↔◌, Err, IfOk};
-ghost use Rattle.rc_embed.specs.Session.{HasLearned, IsIdle, IsUnseenBy};
+ghost use Rattle.std.specs.Prelude.{◌≡◌, ◌↔◌, Err, IfOk, OnErr, OnOk};
+ghost use Rattle.rc_embed.specs.Session.{HasHeard, HasLearned, IsIdle, IsUnseenBy};
 ghost use Rattle.rc_embed.specs.declared.fault.LearnFault.TheVariants as faults;
 
-use crate::fault::LearnFault;
+use crate::fault::{LearnFault, NotIdle};
 use crate::session::{Session, State};
 
 impl Session {
@@ -31,5 +31,28 @@ impl Session {
             return Err(LearnFault::Unseen);
         }
         Ok(length)
+    }
+
+    /// Tells another session of the store all that this one was told of the history: its own calls,
+    /// and what others told it. The next receipt of the other goes on from it. Takes no memory.
+    /// (PLDI 2012, serializable transactions.)
+    ///
+    /// It isn't done exactly while one of the two has a call or a group prepared, or a group open.
+    pub fn tell(&mut self, other: &mut Session) -> Result<(), NotIdle>
+        requires { other.old.store ≡ self.old.store }
+        ensures same { self.new ≡ self.old }
+        ensures store { other.new.store ≡ other.old.store }
+        ensures heard { OnOk result (HasHeard self.old other.old other.new) }
+        ensures refused { OnErr result ((IsIdle self.old.state → IsIdle other.old.state → ⊥) × (other.new ≡ other.old)) }
+    {
+        let State::Idle(pass) = &mut self.state else {
+            return Err(NotIdle);
+        };
+        let State::Idle(told) = &mut other.state else {
+            return Err(NotIdle);
+        };
+        let note = self.shared.store.note(pass);
+        other.shared.store.learn(told, note);
+        Ok(())
     }
 }
