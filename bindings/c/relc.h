@@ -101,7 +101,8 @@ enum relc_code {
     RELC_LIMIT = 23,       /* a session of the closed store has made more calls than limit of the frame */
     RELC_OTHER = 24,       /* the specification, rows with it, isn't that of the closed store, nor that
                               with further operations behind its own */
-    RELC_OUTSIDE = 25      /* a session of the store isn't given back */
+    RELC_OUTSIDE = 25,     /* a session of the store isn't given back */
+    RELC_SHARED = 26       /* all are, and something of the store is held yet, which is built never to come */
 };
 
 /* kinds of a reply */
@@ -353,7 +354,7 @@ uint32_t relc_give_back(relc_store *store, relc_session *session);
 /* Makes a closed store of a store that has all its sessions back (relc_give_back): it has the tuples and the
  * history, and no operation is called on it until it is resumed. RELC_DONE: the store's handle ends, and *closed
  * is the caller's. Else RELC_OUTSIDE, where a session that was begun isn't given back, as one that was closed,
- * also before; or RELC_MEMORY. In both cases the store is as it was and goes on, and *closed is not written. Its
+ * also before; or RELC_MEMORY; or RELC_SHARED, which is built never to come. In all three the store is as it was and goes on, and *closed is not written. Its
  * time rises with the stripes and the passes, and not with the tuples. */
 uint32_t relc_close(relc_store *store, relc_closed **closed);
 

@@ -50,6 +50,7 @@ const char *relc_code_text(uint32_t code)
         [RELC_LIMIT] = "a session of the closed store has made more calls",
         [RELC_OTHER] = "the specification isn't the closed store's with operations behind its own",
         [RELC_OUTSIDE] = "a session of the store isn't given back",
+        [RELC_SHARED] = "something of the store is held yet",
     };
     return code < COUNT(texts) ? texts[code] : "no such code";
 }

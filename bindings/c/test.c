@@ -145,8 +145,8 @@ static void test_opening(void)
     relc_open_frame told = {0};
     CHECK(relc_rule_text(&told) == NULL);
     CHECK(strcmp(relc_code_text(RELC_DONE), "done") == 0);
-    for (uint32_t code = RELC_MEMORY; code <= RELC_OUTSIDE; code++)
-        CHECK(strcmp(relc_code_text(code), relc_code_text(RELC_OUTSIDE + 1)) != 0);
+    for (uint32_t code = RELC_MEMORY; code <= RELC_SHARED; code++)
+        CHECK(strcmp(relc_code_text(code), relc_code_text(RELC_SHARED + 1)) != 0);
     CHECK(refused("relc 3\n", 1, "refused S1 line 1") == RELC_LINE);
     CHECK(refused(wrong, 1, "refused P5 edge e2") == RELC_RULE);
     CHECK(refused(GRAPH, 0, "") == RELC_OPTIONS);

@@ -42,6 +42,7 @@ pub const SESSIONS: u32 = 22;
 pub const LIMIT: u32 = 23;
 pub const OTHER: u32 = 24;
 pub const OUTSIDE: u32 = 25;
+pub const SHARED: u32 = 26;
 
 // Kinds of a reply.
 pub const ROWS: u32 = 0;

@@ -104,3 +104,7 @@ other = 24
 -- some session of the store isn't given back
 abbrev pub outside : ℕ
 outside = 25
+
+-- all are, and somebody holds yet what the store shared with them
+abbrev pub shared : ℕ
+shared = 26

@@ -71,7 +71,7 @@ abbrev pub HasClosedInto : OpenSeen → Option ClosedSeen → Type 0
 HasClosedInto opened place = (closed : ClosedSeen) × (place ≡ Some closed) × HasClosed opened.store opened.passes closed
 
 -- Why a store isn't closed: some session isn't given back; or all are, and memory was wanted, or somebody holds yet what it
--- shares with its sessions, which doesn't come.
+-- shared with them.
 abbrev pub IsUnclosedFor : OpenSeen → ℕ → Type 0
 IsUnclosedFor opened code =
-    ((code ≡ codes.outside) × (HasAllPasses opened → ⊥)) ⊎ ((code ≡ codes.memory) × HasAllPasses opened)
+    ((code ≡ codes.outside) × (HasAllPasses opened → ⊥)) ⊎ (((code ≡ codes.memory) ⊎ (code ≡ codes.shared)) × HasAllPasses opened)

@@ -53,3 +53,5 @@ pub const LIMIT: u32 = 23;
 pub const OTHER: u32 = 24;
 /// Some session of the store isn't given back.
 pub const OUTSIDE: u32 = 25;
+/// All are, and somebody holds yet what the store shared with them, which is built never to come.
+pub const SHARED: u32 = 26;

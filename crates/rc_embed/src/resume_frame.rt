@@ -7,7 +7,7 @@ ghost use Rattle.rc_embed.specs.ResumedFrames.{HasClosedInto, HasItemOf, HaveRes
 ghost use Rattle.rc_embed.specs.ResumedFrames.{IsUnclosedFor, IsUnresumedFrom, TellsResumeFault};
 
 use crate::closing::CloseBack;
-use crate::codes::{LIMIT, MEMORY, OTHER, OUTSIDE, SESSIONS};
+use crate::codes::{LIMIT, MEMORY, OTHER, OUTSIDE, SESSIONS, SHARED};
 use crate::fault::ResumeFault;
 use crate::open_frame::OpenFrame;
 use crate::opening::OpenStore;
@@ -82,7 +82,7 @@ impl OpenStore {
             }),
             Err(CloseBack::Shared(store)) => Err(NotClosed {
                 store,
-                code: MEMORY,
+                code: SHARED,
             }),
             Err(CloseBack::Memory(store)) => Err(NotClosed {
                 store,

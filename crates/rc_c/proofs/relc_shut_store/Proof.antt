@@ -1,6 +1,6 @@
 -- `relc_shut_store` reads the store out of its memory, and closes it. The place of what is left is lent for good: it is taken out of its loan, whose
 -- lifetime never ends, its pointer is handed out, and the room of the store stays. Or the store comes back, and is written into its memory again.
-use Rattle.std.proofs.Common.{◌≡◌, ◌∙◌, ℕ, Bool, true, false, ◌&&◌, List, [], ◌∷◌, ◌++◌, IfOk, IfErr, Option, None, Some, refl, sym, ap, subst, arith, lit<, w32}
+use Rattle.std.proofs.Common.{◌≡◌, ◌∙◌, ℕ, Bool, true, false, ◌&&◌, List, [], ◌∷◌, ◌++◌, IfOk, IfErr, ◌⊎◌, Option, None, Some, refl, sym, ap, subst, arith, lit<, w32}
 use Rattle.rc_c.proofs.Imports.{proved, same_Some, NotClosed, HasAllPasses, OpenSeen, HasClosedInto, IsUnclosedFor, AnswersClosed, left_behind, hands_out}
 use base.Fraction.{full_share}
 use base.Logic.{SProp, ent, emp, id⊢, never_e, fst∗, via, never}
@@ -79,9 +79,13 @@ and_true : (x : Bool) → T x → T (x && true)
 and_true true is = tt
 and_true false is = absurd is
 
+held_isnt_done : (k : ℕ) → (k ≡ 1) ⊎ (k ≡ 26) → k ≡ 0 → ⊥
+held_isnt_done k (inl memory) is = omega (arith, memory, is)
+held_isnt_done k (inr shared) is = omega (arith, shared, is)
+
 unclosed_isnt_done : (n : OpenSeen) (k : ℕ) → IsUnclosedFor n k → k ≡ 0 → ⊥
 unclosed_isnt_done n k (inl out) is = omega (arith, out.0, is)
-unclosed_isnt_done n k (inr want) is = omega (arith, want.0, is)
+unclosed_isnt_done n k (inr want) is = held_isnt_done k want.0 is
 
 abbrev Fit : Ty → Val → Type 0
 Fit σ x = T (has_ty σ x) × WT x
