@@ -6,6 +6,6 @@ mod compiling;
 mod laws;
 mod shape;
 
-pub use cache::{Cached, PlanCache, Planned, Plans};
+pub use cache::{PlanCache, Plans};
 pub use compiling::compile_open;
 pub use laws::plans_are_apart;

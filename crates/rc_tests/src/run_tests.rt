@@ -117,8 +117,12 @@ impl Watch {
 /// A workload, and what is made of it.
 #[derive(Clone, Copy, Debug, PartialEq, Eq)]
 enum Workload {
-    /// Of two calls of one round the first is held until the second is answered: it stands later.
+    /// Of two turns of one round the first is held until the second is answered: it stands later.
     Held,
+    /// So it is of a group and a call,
+    HeldGroup,
+    /// and of a call that brings its operation.
+    HeldOpen,
     /// Calls of eight threads in all rounds are one history.
     Many,
     /// Threads of a generated workload run beside each other: a call is held until one of another thread is answered.
@@ -129,6 +133,8 @@ impl Workload {
     fn words(self) -> &'static [&'static str] {
         match self {
             Workload::Held | Workload::Many => &["run"],
+            Workload::HeldGroup => &["group"],
+            Workload::HeldOpen => &["open"],
             Workload::HeldGenerated => &["big", "7", "4"],
         }
     }
@@ -140,16 +146,23 @@ impl Workload {
 
     /// Adds the text that the words are given.
     fn push_text(self, text: &mut Vec<u8>) -> Result<(), Memory> {
+        if self == Workload::HeldGenerated {
+            return Ok(());
+        }
+        push_bytes(text, GRAPH)?;
         match self {
-            Workload::Held => {
-                push_bytes(text, GRAPH)?;
-                push_bytes(text, b"work 2\nround\n0 ins 1 2 10\n1 ins 2 5 1\nend\n")
+            Workload::Held => push_bytes(text, b"work 2\nround\n0 ins 1 2 10\n1 ins 2 5 1\nend\n"),
+            Workload::HeldGroup => {
+                let work = b"work 2\nround\n0 & 2\n0 ins 1 2 10\n0 ins 1 3 11\n1 ins 2 5 1\nend\n";
+                push_bytes(text, work)
             }
-            Workload::Many => {
-                push_bytes(text, GRAPH)?;
-                push_many_calls(text)
+            Workload::HeldOpen => {
+                push_bytes(
+                    text,
+                    b"work 2\nround\n0 ? src = 1 -> dst\n1 ins 2 5 1\nend\n",
+                )
             }
-            Workload::HeldGenerated => Ok(()),
+            Workload::Many | Workload::HeldGenerated => push_many_calls(text),
         }
     }
 }
@@ -160,6 +173,28 @@ const HELD: &[u8] = b"journal 2
 1 0 ins 1 2 10 -> inserted
 final 2
 (1 2 10)
+(2 5 1)
+end
+";
+
+/// The report of a group and a call of one round, of which the group is held.
+const HELD_GROUP: &[u8] = b"journal 2
+0 1 ins 2 5 1 -> inserted
+1 0 & 2
+1 0 ins 1 2 10 -> inserted
+1 0 ins 1 3 11 -> inserted
+final 3
+(1 2 10)
+(1 3 11)
+(2 5 1)
+end
+";
+
+/// The report of two calls of one round, of which the one that brings its operation is held.
+const HELD_OPEN: &[u8] = b"journal 2
+0 1 ins 2 5 1 -> inserted
+1 0 ?1 1 -> 0 rows
+final 1
 (2 5 1)
 end
 ";
@@ -206,7 +241,13 @@ fn push_call(text: &mut Vec<u8>, number: u64) -> Result<(), Memory> {
 
 #[test]
 fn workloads_go_well(rt: HostRuntime) -> Result<(), Fail> {
-    for workload in [Workload::Held, Workload::Many, Workload::HeldGenerated] {
+    for workload in [
+        Workload::Held,
+        Workload::HeldGroup,
+        Workload::HeldOpen,
+        Workload::Many,
+        Workload::HeldGenerated,
+    ] {
         assert!(&rt; goes_well(&rt, rt.alloc(), workload)?, "{workload:?}");
     }
     Ok(())
@@ -263,6 +304,8 @@ fn is_as_it_should(
     }
     match workload {
         Workload::Held => Ok(gate.came_in_time() && bytes.ends_with(HELD)),
+        Workload::HeldGroup => Ok(gate.came_in_time() && bytes.ends_with(HELD_GROUP)),
+        Workload::HeldOpen => Ok(gate.came_in_time() && bytes.ends_with(HELD_OPEN)),
         Workload::Many => Ok(gate.saw(CALLS) && is_run(alloc, outcome)?),
         Workload::HeldGenerated => Ok(gate.came_in_time()),
     }

@@ -41,7 +41,8 @@ use std::thread::Threads;
 /// operations may stand between specification and workload, each of which keeps K1 to K7, and has
 /// these in the place of the planned ones. `audit` reads a workload up to its `end`, and writes `legal N`
 /// exactly where the lines behind that are what `run` may print for the text up to there, with N entries, and else
-/// `bad line L` for the first line with which no such text begins; `audit bare` does so with the journal alone. Where a rule is broken, each writes the refusal of the first, where no operation has the name `refused operation`, and of more than 2^24 bytes `refused size`. `big`
+/// `bad line L` for the first line with which no such text begins; `audit group` does so with what `group` may print, and
+/// `audit bare` with the journal alone. Where a rule is broken, each writes the refusal of the first, where no operation has the name `refused operation`, and of more than 2^24 bytes `refused size`. `big`
 /// writes the summary of the workload that the seed generates, which is that of one thread that makes the calls in
 /// order. Other words write the usage line.
 ///
@@ -53,8 +54,8 @@ use std::thread::Threads;
 /// what they left: whatever was read, the journal is one legal history, every state of which satisfies the dependencies,
 /// and the rows are those that it leaves; it is a run of the workload that the told bytes have, or of the generated one,
 /// and what was written are the plans and the report, or the summary, of these very values. The gate is told of each
-/// point that a call reaches. The seed is that of the store's hash tables: with one
-/// that was drawn at random, no list of colliding keys can be written down beforehand.
+/// point that a call reaches. The seed is handed on for the hash tables of the store and the judge: draw it at random, so that
+/// nobody can write a list of colliding keys beforehand. No clause here names it.
 pub fn relc<R: Threads + Wait + Sync, S: Source, K: Sink, G: Gate + Sync>(
     rt: &R,
     alloc: Global,
