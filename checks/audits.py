@@ -1,6 +1,6 @@
 #!/usr/bin/env python3
-"""checks/audits.py PROGRAM: whether `relc audit` says of a printed run, and `relc audit bare` of its journal alone, what the definition
-says, which crates/rc_cases/data/audit.py works out from the reports of all schedules: of the run itself, with each byte changed, and with
+"""checks/audits.py PROGRAM: whether `relc audit` and `relc audit group` say of a printed run, and `relc audit bare` of a journal alone, what
+the definition says, which crates/rc_cases/data/audit.py works out from the reports of all schedules: of the run itself, with each byte changed, and with
 each line left out, doubled, and exchanged with its neighbour. Takes some minutes."""
 import pathlib
 import subprocess
@@ -10,6 +10,7 @@ sys.path.insert(0, str(pathlib.Path(__file__).resolve().parent.parent / "crates"
 import audit  # noqa: E402
 
 WORK = ["work 2", "round", "0 ins 1 2 10", "round", "0 succ 1", "1 del 1 2", "end"]
+GROUPS = ["work 2", "round", "0 ins 1 2 10", "1 & 2", "1 find 1 2", "1 del 1 2", "end"]
 
 
 def changes(report):
@@ -31,14 +32,14 @@ def main():
     if len(sys.argv) != 2:
         sys.exit(__doc__)
     tried, wrong = 0, []
-    for bare in False, True:
-        command = ["audit", "bare"] if bare else ["audit"]
-        for report in audit.good_reports(audit.GRAPH, WORK, bare):
+    for form, work in ([], WORK), (["group"], GROUPS), (["bare"], WORK):
+        bare = form == ["bare"]
+        for report in audit.good_reports(audit.GRAPH, work, bare):
             for lines in changes(report):
-                text = "".join(line + "\n" for line in audit.GRAPH + WORK + lines)
-                said = subprocess.run([sys.argv[1], *command], input=text.encode(), capture_output=True).stdout.decode()
+                text = "".join(line + "\n" for line in audit.GRAPH + work + lines)
+                said = subprocess.run([sys.argv[1], "audit", *form], input=text.encode(), capture_output=True).stdout.decode()
                 tried += 1
-                if said != audit.judged(audit.GRAPH, WORK, text, bare) + "\n":
+                if said != audit.judged(audit.GRAPH, work, text, bare) + "\n":
                     wrong.append(text)
     print(f"{tried - len(wrong)} of {tried} reports are judged as the definition says")
     if wrong:

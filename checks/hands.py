@@ -106,8 +106,8 @@ def is_one_history(spec, work, report):
     if model.report_of(spec, calls) != report:
         return False
     for queues in audit.rounds_of(work):
-        left = [collections.deque(queue) for queue in queues]
-        for _ in range(sum(map(len, queues))):
+        left = [collections.deque(call for turn in queue for call in turn) for queue in queues]
+        for _ in range(sum(map(len, left))):
             if not calls or not left[calls[0][0]] or left[calls[0][0]].popleft() != calls.pop(0):
                 return False
     return not calls

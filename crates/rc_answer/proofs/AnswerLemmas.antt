@@ -1,6 +1,6 @@
 -- What may be written of a text, of what is written of its parts.
 use Rattle.std.proofs.Common.{◌≡◌, ℕ, ◌+◌, inl, inr, List, Option, Result, Ok, Err, ◌∙◌, sym, subst, ap}
-use Rattle.rc_answer.proofs.Imports.{Broken, Reading, spec_reading, IsRead, ReadsAs, rest_place, ReadRefusal, Rest, ContentLine, TextPlace, content_from, past_end_of, Spec, IsAccepted, Also, Nothing, Work, IsRestBehind, WorkPart, part_reading, work_reading, Form, AnswersAlone, AnswersAudit, AnswersPart, AnswersRun, AnswersWork, IsJudgement, IsRefusal, IsReport, place_after, WritesRefusal, Writes, Status, Stop, Memory, Sink}
+use Rattle.rc_answer.proofs.Imports.{also_in, Broken, Reading, spec_reading, IsRead, ReadsAs, rest_place, ReadRefusal, Rest, ContentLine, TextPlace, content_from, past_end_of, Spec, IsAccepted, Also, Work, IsRestBehind, WorkPart, part_reading, work_reading, Form, AnswersAlone, AnswersAudit, AnswersPart, AnswersRun, AnswersWork, IsJudgement, IsRefusal, IsReport, place_after, WritesRefusal, Writes, Status, Stop, Memory, Sink}
 use Rattle.rc_reader.specs.declared.refusal.ReadRefusal.TheVariants as refusals
 
 pub writes_wider : (A B : List ℕ → Status → Type 0) (old new : Option (List ℕ)) (r : Result Status Stop) → ((text : List ℕ) (status : Status) → A text status → B text status)
@@ -59,22 +59,22 @@ spec_refusal_answers also input (refusals.Line rule line) old new r made written
 
 module _ (form : Form) (input : List ℕ) (reading : Reading) (spec : Spec) (rest : Rest) (read : spec_reading input ≡ Ok reading) (is : IsRead input spec rest reading) (accepted : IsAccepted spec) where
   -- what is written of the workload up to its `end` is what may be written of the whole
-  part_answers : (found : Result WorkPart Broken) → part_reading Nothing spec (rest_place input rest) ≡ found → (text : List ℕ) (status : Status)
+  part_answers : (found : Result WorkPart Broken) → part_reading (also_in form) spec (rest_place input rest) ≡ found → (text : List ℕ) (status : Status)
       → AnswersPart form spec (past_end_of input) found text status → AnswersAudit form input (spec_reading input) text status
   part_answers found made text status written =
       subst (λ (r : Result Reading Broken). AnswersAudit form input r text status) (sym read)
       (inl (subst (λ (s : Spec). IsAccepted s) (sym is.value) accepted, answers))
     where
-      behind : part_reading Nothing reading.spec (place_after input reading) ≡ found
-      behind = ap (λ (s : Spec). part_reading Nothing s (place_after input reading)) is.value ∙ ap (part_reading Nothing spec) (read_place input reading spec rest is) ∙ made
+      behind : part_reading (also_in form) reading.spec (place_after input reading) ≡ found
+      behind = ap (λ (s : Spec). part_reading (also_in form) s (place_after input reading)) is.value ∙ ap (part_reading (also_in form) spec) (read_place input reading spec rest is) ∙ made
 
-      answers : AnswersPart form reading.spec (past_end_of input) (part_reading Nothing reading.spec (place_after input reading)) text status
+      answers : AnswersPart form reading.spec (past_end_of input) (part_reading (also_in form) reading.spec (place_after input reading)) text status
       answers =
           subst (λ (r : Result WorkPart Broken). AnswersPart form reading.spec (past_end_of input) r text status) (sym behind)
           (subst (λ (s : Spec). AnswersPart form s (past_end_of input) found text status) (sym is.value) written)
 
   -- so the verdict on the lines behind it
-  pub judgement_answers : (part : WorkPart) → part_reading Nothing spec (rest_place input rest) ≡ Ok part → (work : Work) (behind : Rest) → part.work ≡ work
+  pub judgement_answers : (part : WorkPart) → part_reading (also_in form) spec (rest_place input rest) ≡ Ok part → (work : Work) (behind : Rest) → part.work ≡ work
       → IsRestBehind input rest.version behind part.last part.others → (text : List ℕ) (status : Status)
       → IsJudgement form spec work (past_end_of input) (content_from (rest_place input behind)) text status → AnswersAudit form input (spec_reading input) text status
   judgement_answers part made work behind work_is stands text status judged =
@@ -83,7 +83,7 @@ module _ (form : Form) (input : List ℕ) (reading : Reading) (spec : Spec) (res
       (subst (λ (lines : List ContentLine). IsJudgement form spec work (past_end_of input) lines text status) stands.others_are judged))
 
   -- and its refusal
-  pub part_refusal_answers : (refusal : ReadRefusal) (old new : Option (List ℕ)) (r : Result Status Stop) → ReadsAs (Err refusal) (part_reading Nothing spec (rest_place input rest))
+  pub part_refusal_answers : (refusal : ReadRefusal) (old new : Option (List ℕ)) (r : Result Status Stop) → ReadsAs (Err refusal) (part_reading (also_in form) spec (rest_place input rest))
       → WritesRefusal old new refusal r → Writes (AnswersAudit form input (spec_reading input)) old new r
   part_refusal_answers refusals.Memory old new r made (is_memory, same) = subst (Writes (AnswersAudit form input (spec_reading input)) old new) (sym is_memory) (inl same)
   part_refusal_answers (refusals.Line rule line) old new r made written =

@@ -1,5 +1,5 @@
 -- The names that files of proofs/ take from the crates below, from std and from specs/, passed on from one place.
-pub use Rattle.rc_answer.specs.Answers.{AnswersAlone, AnswersAudit, AnswersByHand, AnswersChosen, AnswersHands, AnswersOpen, AnswersOpenWork, AnswersPart, AnswersRun, AnswersWork, AnswersWorkBy, IsDrawing, IsJudgement, IsOpenReport, IsPlanDrawing, IsPlanDrawingNamed, IsPlanDrawingOrRefusal, IsPlansText, IsRefusal, IsReport, IsReportBy, IsVerdictText, verdict_status, verdict_text, work_in_lines}
+pub use Rattle.rc_answer.specs.Answers.{AnswersAlone, AnswersAudit, AnswersByHand, AnswersChosen, AnswersHands, AnswersOpen, AnswersOpenWork, AnswersPart, AnswersRun, AnswersWork, AnswersWorkBy, IsDrawing, IsJudgement, IsOpenReport, IsPlanDrawing, IsPlanDrawingNamed, IsPlanDrawingOrRefusal, IsPlansText, IsRefusal, IsReport, IsReportBy, IsVerdictText, also_in, verdict_status, verdict_text, work_in_lines}
 pub use Rattle.rc_answer.specs.Asked.{IsAskedText}
 pub use Rattle.rc_answer.specs.Big.{HasSummaryText, IsBigText, ran_text}
 pub use Rattle.rc_answer.specs.Plans.{ArePlanned, op_text, plans_text}

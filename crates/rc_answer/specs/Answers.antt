@@ -190,15 +190,21 @@ pub record IsJudgement (form : Form) (spec : Spec) (work : Work) (past_end : ℕ
   pub is : IsVerdict form (record { spec = spec; plans = plans }) work past_end lines verdict
   pub written : IsVerdictText verdict text status
 
+-- what may stand in the workload of a report of this form
+abbrev pub also_in : Form → Also
+also_in forms.Run = Nothing
+also_in forms.Group = Groups
+also_in forms.Journal = Nothing
+
 abbrev pub AnswersPart : Form → Spec → ℕ → Result WorkPart Broken → List ℕ → Status → Type 0
 AnswersPart form spec past_end (Err broken) text status = IsRefusal broken text status
 AnswersPart form spec past_end (Ok part) text status = IsJudgement form spec part.work past_end part.others text status
 
--- what is written of a specification, a workload of single calls and the lines behind that, which are of this form
+-- what is written of a specification, a workload and the lines behind that, which are of this form
 abbrev pub AnswersAudit : Form → List ℕ → Result Reading Broken → List ℕ → Status → Type 0
 AnswersAudit form input (Err broken) text status = IsRefusal broken text status
 AnswersAudit form input (Ok reading) text status =
-    AnswersRules reading.spec (AnswersPart form reading.spec (past_end_of input) (part_reading Nothing reading.spec (place_after input reading))) text status
+    AnswersRules reading.spec (AnswersPart form reading.spec (past_end_of input) (part_reading (also_in form) reading.spec (place_after input reading))) text status
 
 -- ---- all commands that read a text
 
@@ -210,13 +216,14 @@ AnswersAudit form input (Ok reading) text status =
 -- that, and the plans and the report of a run over the specification with them. `hand` reads plans between the two, refuses the first broken line rule of these, then the first plan that breaks a
 -- rule of plans, and then as `run` does; else it writes the plans that were written, in the place of the planned ones, and the
 -- report of a run. `audit` reads a workload up to its `end`, refuses as `run` does, and else judges the lines behind that, as what is
--- printed of a run, or as a journal alone.
+-- printed of a run, one of groups among them, or as a journal alone.
 abbrev pub Answers : TextCommand → List ℕ → List ℕ → Status → Type 0
 Answers commands.Check input text status = AnswersAlone (λ spec. IsAcceptedText) (spec_of input) text status
 Answers commands.Plan input text status = AnswersAlone IsPlansText (spec_of input) text status
 Answers commands.Run input text status = AnswersRun Nothing input (spec_reading input) text status
 Answers commands.Group input text status = AnswersRun Groups input (spec_reading input) text status
 Answers commands.Audit input text status = AnswersAudit forms.Run input (spec_reading input) text status
+Answers commands.AuditGroup input text status = AnswersAudit forms.Group input (spec_reading input) text status
 Answers commands.AuditJournal input text status = AnswersAudit forms.Journal input (spec_reading input) text status
 Answers commands.Hand input text status = AnswersByHand input (spec_reading input) text status
 Answers commands.Open input text status = AnswersOpen input (spec_reading input) text status
@@ -230,6 +237,7 @@ MakesCalls commands.Plan = ⊥
 MakesCalls commands.Run = Unit {0}
 MakesCalls commands.Group = Unit {0}
 MakesCalls commands.Audit = ⊥
+MakesCalls commands.AuditGroup = ⊥
 MakesCalls commands.AuditJournal = ⊥
 MakesCalls commands.Hand = Unit {0}
 MakesCalls commands.Open = Unit {0}
@@ -243,6 +251,7 @@ ArePlansFor commands.Plan spec plans = ArePlanned spec plans
 ArePlansFor commands.Run spec plans = ArePlanned spec plans
 ArePlansFor commands.Group spec plans = ArePlanned spec plans
 ArePlansFor commands.Audit spec plans = ArePlanned spec plans
+ArePlansFor commands.AuditGroup spec plans = ArePlanned spec plans
 ArePlansFor commands.AuditJournal spec plans = ArePlanned spec plans
 ArePlansFor commands.Hand spec plans = ArePlansOf spec plans
 ArePlansFor commands.Open spec plans = ArePlanned spec plans
@@ -256,6 +265,7 @@ also_of commands.Plan = Nothing
 also_of commands.Run = Nothing
 also_of commands.Group = Groups
 also_of commands.Audit = Nothing
+also_of commands.AuditGroup = Nothing
 also_of commands.AuditJournal = Nothing
 also_of commands.Hand = Nothing
 also_of commands.Open = Nothing
@@ -265,6 +275,7 @@ also_of (commands.DotPlan op) = Nothing
 -- the command that judges lines of this form
 abbrev pub audit_for : Form → TextCommand
 audit_for forms.Run = commands.Audit
+audit_for forms.Group = commands.AuditGroup
 audit_for forms.Journal = commands.AuditJournal
 
 -- an input that is too long

@@ -1,6 +1,6 @@
 -- What `run` and `group` answer to a text that is cut.
 use Rattle.std.proofs.Common.{◌≡◌, ℕ, ◌≤◌, List, Result, Ok, Err, inl, inr, take}
-use Rattle.rc_answer.specs.Imports.{Spec, Broken, Reading, spec_reading, Also, Work, IsLastLetter, cut_texts_are_refused, work_reading, Whole, place_after, text_reading, text_reading_by, whole_by, TextCommand, Check, Plan, Run, Group, Audit, AuditJournal, Open, Dot, DotPlan}
+use Rattle.rc_answer.specs.Imports.{Spec, Broken, Reading, spec_reading, Also, Work, IsLastLetter, cut_texts_are_refused, work_reading, Whole, place_after, text_reading, text_reading_by, whole_by, TextCommand, Check, Plan, Run, Group, Audit, AuditGroup, AuditGroup, AuditJournal, Open, Dot, DotPlan}
 use Rattle.rc_command.specs.declared.command.TextCommand.TheVariants.{Hand}
 use Rattle.rc_answer.specs.declared.status.Status.{Status}
 use Rattle.rc_answer.specs.declared.status.Status.TheVariants.{Refused}
@@ -30,6 +30,7 @@ HasWorkBehind Plan = ⊥
 HasWorkBehind Run = Unit {0}
 HasWorkBehind Group = Unit {0}
 HasWorkBehind Audit = ⊥
+HasWorkBehind AuditGroup = ⊥
 HasWorkBehind AuditJournal = ⊥
 HasWorkBehind Hand = ⊥
 HasWorkBehind Open = ⊥
@@ -49,6 +50,7 @@ cut_runs_are_refused Plan calls text whole at n is letter before out status answ
 cut_runs_are_refused Run calls text whole at n is letter before out status answers = cut_is_refused (also_of Run) text whole at n is letter before out status answers
 cut_runs_are_refused Group calls text whole at n is letter before out status answers = cut_is_refused (also_of Group) text whole at n is letter before out status answers
 cut_runs_are_refused Audit calls text whole at n is letter before out status answers = absurd calls
+cut_runs_are_refused AuditGroup calls text whole at n is letter before out status answers = absurd calls
 cut_runs_are_refused AuditJournal calls text whole at n is letter before out status answers = absurd calls
 cut_runs_are_refused Hand calls text whole at n is letter before out status answers = absurd calls
 cut_runs_are_refused Open calls text whole at n is letter before out status answers = absurd calls

@@ -35,7 +35,7 @@ use Rattle.rc_handplan.specs.HandGrammar as hand_lines
 use Rattle.rc_answer.specs.declared.outcome.Outcome.{Outcome}
 use Rattle.rc_answer.specs.declared.outcome.Ran.{Ran}
 use Rattle.rc_answer.specs.declared.status.Status.TheVariants.{Done, Refused}
-use Rattle.rc_answer.specs.Answers.{accepted_text, hand_refusal_text, line_refusal_text, verdict_status, verdict_text, work_in_lines}
+use Rattle.rc_answer.specs.Answers.{accepted_text, also_in, hand_refusal_text, line_refusal_text, verdict_status, verdict_text, work_in_lines}
 use Rattle.rc_answer.specs.Plans.{ArePlanned, plans_text}
 
 -- ---- one legal history
@@ -181,7 +181,7 @@ OfAlone (Ok spec) old new outcome = OfSpec spec Accepts old new outcome
 abbrev pub OfJudged : Form → List ℕ → Result Reading Broken → Option (List ℕ) → Option (List ℕ) → Outcome → Type 0
 OfJudged form input (Err broken) old new outcome = Refuses (line_refusal_text broken) old new outcome
 OfJudged form input (Ok reading) old new outcome =
-    OfSpec reading.spec (OfPart form reading.spec (past_end_of input) (part_reading Nothing reading.spec (place_after input reading))) old new outcome
+    OfSpec reading.spec (OfPart form reading.spec (past_end_of input) (part_reading (also_in form) reading.spec (place_after input reading))) old new outcome
 
 -- ---- the headline
 

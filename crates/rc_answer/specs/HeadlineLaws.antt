@@ -11,7 +11,7 @@ use Rattle.rc_answer.specs.declared.outcome.Outcome.{Outcome}
 use Rattle.rc_answer.specs.declared.outcome.Ran.{Ran}
 use Rattle.rc_answer.specs.declared.status.Status.{Status}
 use Rattle.rc_answer.specs.declared.status.Status.TheVariants.{Done, Bad, Refused}
-use Rattle.rc_answer.specs.Answers.{Answers, AnswersAlone, AnswersAudit, AnswersByHand, AnswersHands, AnswersOpen, AnswersOpenWork, AnswersPart, AnswersRules, AnswersRun, AnswersWork, AnswersWorkBy, IsAcceptedText, IsJudgement, audit_for, hand_refusal_text, line_refusal_text, verdict_status, work_in_lines}
+use Rattle.rc_answer.specs.Answers.{Answers, AnswersAlone, AnswersAudit, AnswersByHand, AnswersHands, AnswersOpen, AnswersOpenWork, AnswersPart, AnswersRules, AnswersRun, AnswersWork, AnswersWorkBy, IsAcceptedText, IsJudgement, also_in, audit_for, hand_refusal_text, line_refusal_text, verdict_status, work_in_lines}
 use Rattle.rc_answer.specs.Plans.{ArePlanned, plans_text}
 use Rattle.rc_answer.specs.Ran.{HasHandText, HasOpenText, HasRunText, IsRunBy, IsRunOf, entries_in, run_text}
 use Rattle.rc_answer.specs.RanLaws.{single_in_lines, single_without_groups}
@@ -125,17 +125,17 @@ abbrev Draft : Type 0
 Draft = Target draft_of
 
 -- each thread of a workload that was read up to its `end` is one of it
-threads_by : (spec : Spec) (past_end : ℕ) (lines : List ContentLine) (found : Result Draft Broken) (work : Work) → reading_all Nothing past_end spec lines ≡ found
+threads_by : (also : Also) (spec : Spec) (past_end : ℕ) (lines : List ContentLine) (found : Result Draft Broken) (work : Work) → reading_all also past_end spec lines ≡ found
     → work_by spec found ≡ Ok work → HasThreads work
-threads_by spec past_end lines (Err broken) work is e = absurd cc
-threads_by spec past_end lines (Ok draft) work is e =
+threads_by also spec past_end lines (Err broken) work is e = absurd cc
+threads_by also spec past_end lines (Ok draft) work is e =
     let same : work_of spec draft ≡ work = cc in
-    subst HasThreads same (HasThreads-work_with spec _ draft (IsDraft-reading_all Nothing past_end spec lines draft is))
+    subst HasThreads same (HasThreads-work_with spec _ draft (IsDraft-reading_all also past_end spec lines draft is))
 
-pub part_threads : (spec : Spec) (place : TextPlace) (part : WorkPart) → part_reading Nothing spec place ≡ Ok part → HasThreads part.work
-part_threads spec place part e =
-    let of = parts_are_works Nothing spec place part e in
-    threads_by spec (past_end_of place.text) (of.front ++ part.last ∷ []) (reading_all Nothing (past_end_of place.text) spec (of.front ++ part.last ∷ [])) part.work refl of.gives
+pub part_threads : (also : Also) (spec : Spec) (place : TextPlace) (part : WorkPart) → part_reading also spec place ≡ Ok part → HasThreads part.work
+part_threads also spec place part e =
+    let of = parts_are_works also spec place part e in
+    threads_by also spec (past_end_of place.text) (of.front ++ part.last ∷ []) (reading_all also (past_end_of place.text) spec (of.front ++ part.last ∷ [])) part.work refl of.gives
 
 bad_is_not_done : Bad ≡ Done → ⊥
 bad_is_not_done e = cc
@@ -170,23 +170,24 @@ module _ (old new : Option (List ℕ)) (outcome : Outcome) (none : outcome.ran �
         printed = subst (λ (l : List ℕ). Adds old l new) h.written.0 adds;
       }
 
-  of_part : (form : Form) (spec : Spec) (place : TextPlace) (past_end : ℕ) (found : Result WorkPart Broken) → part_reading Nothing spec place ≡ found
+  of_part : (form : Form) (spec : Spec) (place : TextPlace) (past_end : ℕ) (found : Result WorkPart Broken) → part_reading (also_in form) spec place ≡ found
       → (out : List ℕ) → AnswersPart form spec past_end found out outcome.status → Adds old out new → OfPart form spec past_end found old new outcome
   of_part form spec place past_end (Err broken) is out (printed, refused) adds =
       refuses old new outcome (line_refusal_text broken) out none printed refused adds
-  of_part form spec place past_end (Ok part) is out answers adds = judged form spec part.work past_end part.others out (part_threads spec place part is) answers adds
+  of_part form spec place past_end (Ok part) is out answers adds = judged form spec part.work past_end part.others out (part_threads (also_in form) spec place part is) answers adds
 
   of_judged : (form : Form) (input : List ℕ) (read : Result Reading Broken) (out : List ℕ) → AnswersAudit form input read out outcome.status → Adds old out new
       → OfJudged form input read old new outcome
   of_judged form input (Err broken) out (printed, refused) adds = refuses old new outcome (line_refusal_text broken) out none printed refused adds
   of_judged form input (Ok reading) out answers adds =
-      let found = part_reading Nothing reading.spec (place_after input reading) in
+      let found = part_reading (also_in form) reading.spec (place_after input reading) in
       of_rules old new outcome reading.spec (AnswersPart form reading.spec (past_end_of input) found) (OfPart form reading.spec (past_end_of input) found) out (λ refused. none)
       (λ h. of_part form reading.spec (place_after input reading) (past_end_of input) found refl out h adds) answers adds
 
   pub audit_headline : (form : Form) (input : List ℕ) → WritesWhole (Answers (audit_for form) input) old new outcome.status
       → AuditHeadline form input old new outcome
   audit_headline forms.Run input (out, answers, adds) = of_judged forms.Run input (spec_reading input) out answers adds
+  audit_headline forms.Group input (out, answers, adds) = of_judged forms.Group input (spec_reading input) out answers adds
   audit_headline forms.Journal input (out, answers, adds) = of_judged forms.Journal input (spec_reading input) out answers adds
 
 -- ---- run, group and hand

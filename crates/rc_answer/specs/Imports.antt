@@ -4,7 +4,7 @@ pub use Rattle.rc_audit.specs.VerdictLaws.{one_verdict}
 pub use Rattle.rc_audit.specs.declared.form.Form.{Form}
 pub use Rattle.rc_audit.specs.declared.verdict.Verdict.{Verdict}
 pub use Rattle.rc_command.specs.declared.command.TextCommand.{TextCommand}
-pub use Rattle.rc_command.specs.declared.command.TextCommand.TheVariants.{Audit, AuditJournal, Check, Dot, DotPlan, Group, Open, Plan, Run}
+pub use Rattle.rc_command.specs.declared.command.TextCommand.TheVariants.{Audit, AuditGroup, AuditJournal, Check, Dot, DotPlan, Group, Open, Plan, Run}
 pub use Rattle.rc_dot.specs.Dot.{drawing_text, plan_drawing_text}
 pub use Rattle.rc_generate.specs.Generated.{generated, generated_calls}
 pub use Rattle.rc_generate.specs.GeneratedLaws.{generated_has_single_turns, generated_summary_is_one_threads}
@@ -35,7 +35,7 @@ pub use Rattle.rc_reader.specs.RuleText.{line_rule_text}
 pub use Rattle.rc_reader.specs.Versions.{version_number}
 pub use Rattle.rc_reader.specs.declared.refusal.ReadRefusal.{ReadRefusal}
 pub use Rattle.rc_rel.specs.History.{AllFit, AreLegalFrom, IsLegal, IsNumbered, after_steps, calls_of, own, relation_at, replay, states, steps_of}
-pub use Rattle.rc_rel.specs.HistoryLaws.{replay_in_states, states_satisfy, steps_of-append}
+pub use Rattle.rc_rel.specs.HistoryLaws.{states_satisfy, steps_of-append}
 pub use Rattle.rc_rel.specs.PlaceLaws.{legal_last}
 pub use Rattle.rc_rel.specs.declared.entry.Entry.{Entry}
 pub use Rattle.rc_rel.specs.declared.entry.Step.{Step}

@@ -127,6 +127,7 @@ HasTextOf commands.Plan = HasRunText (also_of commands.Plan)
 HasTextOf commands.Run = HasRunText (also_of commands.Run)
 HasTextOf commands.Group = HasRunText (also_of commands.Group)
 HasTextOf commands.Audit = HasRunText (also_of commands.Audit)
+HasTextOf commands.AuditGroup = HasRunText (also_of commands.AuditGroup)
 HasTextOf commands.AuditJournal = HasRunText (also_of commands.AuditJournal)
 HasTextOf commands.Hand = HasHandText
 HasTextOf commands.Open = HasOpenText

@@ -128,6 +128,7 @@ text_is_one_history commands.Plan = written_is_one_history (also_of commands.Pla
 text_is_one_history commands.Run = written_is_one_history (also_of commands.Run)
 text_is_one_history commands.Group = written_is_one_history (also_of commands.Group)
 text_is_one_history commands.Audit = written_is_one_history (also_of commands.Audit)
+text_is_one_history commands.AuditGroup = written_is_one_history (also_of commands.AuditGroup)
 text_is_one_history commands.AuditJournal = written_is_one_history (also_of commands.AuditJournal)
 text_is_one_history commands.Hand = hand_is_one_history
 text_is_one_history commands.Open = open_is_one_history

@@ -5,8 +5,8 @@ ghost use Rattle.rc_text.specs.Lines.{IsLineStart, content_from, past_end_of, pr
 ghost use Rattle.rc_reader.specs.Answers.{rest_place};
 ghost use Rattle.rc_reader.specs.Grammar.{spec_reading};
 ghost use Rattle.rc_work.specs.Fitting.{HasThreads, RoundsFit};
-ghost use Rattle.rc_work.specs.Limits.{HasSingleTurns, KeepsLimits};
-ghost use Rattle.rc_answer.specs.Answers.{AnswersAudit, IsJudgement, IsVerdictText, verdict_status, verdict_text};
+ghost use Rattle.rc_work.specs.Limits.{KeepsLimits};
+ghost use Rattle.rc_answer.specs.Answers.{AnswersAudit, IsJudgement, IsVerdictText, also_in, verdict_status, verdict_text};
 ghost use Rattle.rc_answer.specs.Writes.{CountsFaults, Writes};
 
 use crate::refusing::{refuse, refuse_spec};
@@ -71,7 +71,6 @@ fn write_judgement<K: Sink>(
     requires limits { KeepsLimits work.now }
     requires threads { HasThreads work.now }
     requires fit { RoundsFit accepted work.now.rounds }
-    requires single { HasSingleTurns work.now }
     ensures written { Writes (IsJudgement form accepted work.now (past_end_of text.now)
         (content_from (rest_place text.now rest))) (K.held sink.old) (K.held sink.new) result }
     ensures faults { CountsFaults (K.faults sink.old) (K.faults sink.new) result }
@@ -82,9 +81,19 @@ fn write_judgement<K: Sink>(
     write_verdict(alloc, sink, verdict)
 }
 
-/// Answers a specification, a workload of single calls behind it and the lines behind that, which
-/// are said to be what `run` printed, or a journal alone: writes the verdict on them, or the refusal
-/// of the first broken rule.
+/// What may stand in the workload of a report of this form.
+fn also_in(form: Form) -> Also
+    ensures { result ≡ also_in form }
+{
+    match form {
+        Form::Run | Form::Journal => Also::Nothing,
+        Form::Group => Also::Groups,
+    }
+}
+
+/// Answers a specification, a workload behind it and the lines behind that, which are said to be what
+/// `run` or `group` printed, or a journal alone: writes the verdict on them, or the refusal of the
+/// first broken rule.
 pub(crate) fn answer_audit<K: Sink>(
     alloc: Global,
     hash_seed: Seed,
@@ -105,7 +114,7 @@ pub(crate) fn answer_audit<K: Sink>(
         Ok(accepted) => accepted,
         Err(fault) => return refuse_spec(alloc, sink, fault),
     };
-    let (work, behind) = match read_work_part(alloc, text, rest, accepted.spec(), Also::Nothing) {
+    let (work, behind) = match read_work_part(alloc, text, rest, accepted.spec(), also_in(form)) {
         Ok(read) => read,
         Err(refusal) => return refuse(alloc, sink, refusal),
     };

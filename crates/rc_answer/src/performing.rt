@@ -266,6 +266,9 @@ pub fn answer<R: Threads + Wait + Sync, K: Sink, G: Gate + Sync>(
         TextCommand::Run => run(rt, alloc, hash_seed, Also::Nothing, text, sink, gate),
         TextCommand::Group => run(rt, alloc, hash_seed, Also::Groups, text, sink, gate),
         TextCommand::Audit => without_run(answer_audit(alloc, hash_seed, Form::Run, text, sink)),
+        TextCommand::AuditGroup => {
+            without_run(answer_audit(alloc, hash_seed, Form::Group, text, sink))
+        }
         TextCommand::AuditJournal => {
             without_run(answer_audit(alloc, hash_seed, Form::Journal, text, sink))
         }

@@ -1,6 +1,7 @@
 pub mod CursorLemmas
 pub mod ListLemmas
 pub mod OpeningLemmas
+pub mod PrintLemmas
 pub mod RelationLemmas
 pub mod StageLemmas
 pub mod EntryLemmas

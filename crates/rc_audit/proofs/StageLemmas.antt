@@ -1,6 +1,6 @@
 -- The stages of a report: what a line leaves of each, and why one is bad.
 use Rattle.std.proofs.Common.{◌≡◌, ℕ, zero, suc, ◌+◌, ◌-◌, ◌<◌, ◌≤◌, inl, inr, List, [], ◌∷◌, ◌++◌, drop, take, get_or, length, Option, Some, None, refl, sym, ap, ◌∙◌, subst, arith}
-use Rattle.rc_audit.proofs.Imports.{slice_get, append-nil, append_assoc, drop_more, take-append-drop, nil_from_length, take_all, cases_lt, drop_of_length-le, get_or_from_slice_get, slice_get-get_or, slice_get_within, slice_get_there, Spec, SpecWithPlans, Entry, Turn, Work, HasTurnsBelow, thread_turns, Closing, Entries, Form, Opening, Relation, AreCursors, HasLeft, HaveBegun, left_in, has_left_by, left_at_start, next_turn, none_left, BeginsGood, IsGoodReport, IsJudgeable, IsJudged, closing_lines, opening_lines, judged_begins, judged_end, judged_round, judged_same, judged_start, judged_wants, HasSomeLeft, IsAmong, IsBefore, IsBetween, IsClosing, IsFirstFilled, IsOpening, round_at, tail_lines, Keeps, turn_mine, no_turns, turns_in, IsWanted, begins_shorter, closing_is_wanted, good_begins, more_is_bad, opening_is_wanted, other_is_bad, wanted_is_not_all, whole_is_good}
+use Rattle.rc_audit.proofs.Imports.{slice_get, append-nil, append_assoc, drop_more, take-append-drop, nil_from_length, take_all, cases_lt, drop_of_length-le, get_or_from_slice_get, slice_get-get_or, slice_get_within, slice_get_there, Spec, SpecWithPlans, Entry, Turn, Work, HasTurnsBelow, thread_turns, Closing, Entries, Form, Opening, Relation, AreCursors, HasLeft, HaveBegun, left_in, has_left_by, left_at_start, next_turn, none_left, BeginsGood, IsGoodReport, IsJudgeable, IsJudged, closing_lines, opening_lines, judged_begins, judged_end, judged_round, judged_same, judged_start, judged_wants, HasMore, HasSomeLeft, IsAmong, IsBefore, IsBetween, IsClosing, IsFirstFilled, IsOpening, round_at, tail_lines, Keeps, turn_mine, no_turns, turns_in, IsWanted, begins_shorter, closing_is_wanted, good_begins, more_is_bad, opening_is_wanted, other_is_bad, wanted_is_not_all, whole_is_good, HasPending, pending_is_wanted}
 use Rattle.rc_audit.proofs.ListLemmas.{one_more, parted}
 
 module _ (form : Form) (compiled : SpecWithPlans) (work : Work) (can : IsJudgeable compiled.spec work) where
@@ -39,7 +39,7 @@ module _ (form : Form) (compiled : SpecWithPlans) (work : Work) (can : IsJudgeab
           between = record {
             left = no_turns;
             none = λ thread. refl;
-            judged = subst (IsJudged form compiled work [] no_turns work.rounds) (sym all) (judged_start form compiled work can);
+            judged = subst (λ l. IsJudged form compiled work [] no_turns work.rounds l []) (sym all) (judged_start form compiled work can);
           };
           place_is = refl;
           keeps = keeps;
@@ -63,7 +63,7 @@ module _ (form : Form) (compiled : SpecWithPlans) (work : Work) (can : IsJudgeab
         left = turns_in [];
         none = λ thread. refl;
         judged = judged_round form compiled work can done h.left (drop (from + 1) work.rounds) front [] h.none
-            (subst (λ rounds. IsJudged form compiled work done h.left rounds front) parts h.judged);
+            (subst (λ rounds. IsJudged form compiled work done h.left rounds front []) parts h.judged);
       } in
       subst (λ k. IsBetween form compiled work done (drop k work.rounds) front) z
       (skipped done front n (from + 1) (omega (arith, within)) (λ k l m. empty k (omega (arith, l)) (omega (arith, m))) next)
@@ -79,21 +79,22 @@ module _ (form : Form) (compiled : SpecWithPlans) (work : Work) (can : IsJudgeab
         (skipped before.done front (next - number) number (omega (arith, z, within)) (λ k l m. first.empty k l (omega (arith, m, z))) before.between)
 
     -- the judge stands among the entries of a round that has turns
-    pub among_first : (entries : Entries) → entries.round ≡ next → entries.place ≡ place → next < length work.rounds
+    pub among_first : (entries : Entries) → entries.round ≡ next → entries.place ≡ place → entries.lines ≡ [] → next < length work.rounds
         → HaveBegun (round_at work next) work.threads entries.cursors.items → IsAmong form compiled work relation entries front
     unfolding at_next
-    among_first entries round_is place_is within begun =
+    among_first entries round_is place_is none within begun =
         let parts : drop next work.rounds ≡ round_at work next ∷ drop (next + 1) work.rounds = drop_more work.rounds next [] within in
-        let judged = subst (λ rounds. IsJudged form compiled work before.done at_next.left rounds front) parts at_next.judged in
+        let judged = subst (λ rounds. IsJudged form compiled work before.done at_next.left rounds front []) parts at_next.judged in
         let here = judged_round form compiled work can before.done at_next.left (drop (next + 1) work.rounds) front (round_at work next) at_next.none judged in
         let below : HasTurnsBelow work.threads (round_at work next) = judged.stands.below.0 in
-        let all : IsJudged form compiled work before.done (left_in (round_at work next) entries.cursors.items) (drop (next + 1) work.rounds) front =
+        let all : IsJudged form compiled work before.done (left_in (round_at work next) entries.cursors.items) (drop (next + 1) work.rounds) front [] =
         judged_same form compiled work can before.done (turns_in (round_at work next)) (drop (next + 1) work.rounds) front (left_in (round_at work next) entries.cursors.items)
         (left_at_start (round_at work next) work.threads entries.cursors.items begun below) here in
         record {
           within = subst (λ k. k < length work.rounds) (sym round_is) within;
           done = before.done;
-          judged = subst (λ k. IsJudged form compiled work before.done (left_in (round_at work k) entries.cursors.items) (drop (k + 1) work.rounds) front) (sym round_is) all;
+          judged = subst (λ (x : ℕ × List (List ℕ)). IsJudged form compiled work before.done (left_in (round_at work x.0) entries.cursors.items) (drop (x.0 + 1) work.rounds) front x.1)
+              (λ i. (sym round_is i, sym (drop_of_length-le entries.lines {i = entries.met} (let z : length entries.lines ≡ 0 = ap length none in omega (arith, z))) i)) all;
           place_is = before.place_is ∙ sym place_is;
           keeps = before.keeps;
           count = begun.count;
@@ -204,23 +205,43 @@ module _ (form : Form) (compiled : SpecWithPlans) (work : Work) (can : IsJudgeab
   module _ (relation : Relation) (entries : Entries) (front : List (List ℕ)) (at : IsAmong form compiled work relation entries front) where
     pub among_begins : BeginsGood form compiled work front
     among_begins =
-        judged_begins form compiled work can at.done (left_in (round_at work entries.round) entries.cursors.items) (drop (entries.round + 1) work.rounds) front at.judged
+        judged_begins form compiled work can at.done (left_in (round_at work entries.round) entries.cursors.items) (drop (entries.round + 1) work.rounds) front
+        (drop entries.met entries.lines) at.judged
 
-    pub among_none : HasSomeLeft work entries → (count : ℕ) → IsGoodReport form compiled work front count → ⊥
-    among_none some count good =
+    none_pending : (HasPending entries → ⊥) → IsJudged form compiled work at.done (left_in (round_at work entries.round) entries.cursors.items) (drop (entries.round + 1) work.rounds) front []
+    none_pending none =
+        subst (IsJudged form compiled work at.done (left_in (round_at work entries.round) entries.cursors.items) (drop (entries.round + 1) work.rounds) front)
+        (drop_of_length-le entries.lines (elim (cases_lt entries.met (length entries.lines)) [ inl within ↦ absurd (none within) | inr past ↦ past ])) at.judged
+
+    wants : HasSomeLeft work entries → (HasPending entries → ⊥) → (count : ℕ) → IsGoodReport form compiled work front count → ⊥
+    wants some none count good =
         let turn = next_turn (round_at work entries.round) entries.cursors.items some.0 at.are some.1 in
-        judged_wants form compiled work can at.done (left_in (round_at work entries.round) entries.cursors.items) (drop (entries.round + 1) work.rounds) front at.judged
+        judged_wants form compiled work can at.done (left_in (round_at work entries.round) entries.cursors.items) (drop (entries.round + 1) work.rounds) front (none_pending none)
         some.0 turn.0.calls _ turn.1.left count good
 
+    pub among_none : HasMore work entries → (count : ℕ) → IsGoodReport form compiled work front count → ⊥
+    among_none more count good = elim (cases_lt entries.met (length entries.lines)) [
+      | inl pending ↦ wanted_is_not_all form compiled work front (get_or entries.lines entries.met [])
+          (pending_is_wanted form compiled work can at.done (left_in (round_at work entries.round) entries.cursors.items) (drop (entries.round + 1) work.rounds) front
+          (drop (entries.met + 1) entries.lines) (get_or entries.lines entries.met [])
+          (subst (IsJudged form compiled work at.done (left_in (round_at work entries.round) entries.cursors.items) (drop (entries.round + 1) work.rounds) front)
+          (drop_more entries.lines entries.met [] pending) at.judged)) count good
+      | inr past ↦ left_is more past
+    ]
+      where
+        left_is : HasMore work entries → length entries.lines ≤ entries.met → ⊥
+        left_is (inl pending) past = omega (arith, pending, past)
+        left_is (inr some) past = wants some (λ pending. omega (arith, pending, past)) count good
+
     -- where no turn is left, the judge stands before the next round
-    pub among_before : (HasSomeLeft work entries → ⊥) → IsBefore form compiled work relation (entries.round + 1) entries.place front
+    pub among_before : (HasMore work entries → ⊥) → IsBefore form compiled work relation (entries.round + 1) entries.place front
     among_before none = record {
       within = let within = at.within in omega (arith, within);
       done = at.done;
       between = record {
         left = left_in (round_at work entries.round) entries.cursors.items;
-        none = none_left (round_at work entries.round) entries.cursors.items (λ thread has. none (thread, has));
-        judged = at.judged;
+        none = none_left (round_at work entries.round) entries.cursors.items (λ thread has. none (inr (thread, has)));
+        judged = none_pending (λ pending. none (inl pending));
       };
       place_is = at.place_is;
       keeps = at.keeps;

@@ -2,7 +2,7 @@
 use Rattle.std.specs.Prelude.{◌≡◌, ◌⊎◌, ℕ, List, [], ◌∷◌, ◌++◌, length, codes}
 use Rattle.rc_audit.specs.Imports.{flat_map, range_with_len, ContentLine, bytes_of_content, Spec, Statement, SpecWithPlans, plan_at, plan_lines, Entry, replay, Work, count_line, journal_lines, report, Runs}
 use Rattle.rc_audit.specs.declared.form.Form.{Form}
-use Rattle.rc_audit.specs.declared.form.Form.TheVariants.{Run, Journal}
+use Rattle.rc_audit.specs.declared.form.Form.TheVariants.{Run, Group, Journal}
 use Rattle.rc_audit.specs.declared.verdict.Verdict.{Verdict}
 use Rattle.rc_audit.specs.declared.verdict.Verdict.TheVariants.{Legal, Bad}
 
@@ -26,10 +26,11 @@ bare_lines spec work history =
 -- the lines that a report of this form has of a history
 abbrev pub good_lines : Form → SpecWithPlans → Work → List Entry → List (List ℕ)
 good_lines Run compiled work history = run_lines compiled work history
+good_lines Group compiled work history = run_lines compiled work history
 good_lines Journal compiled work history = bare_lines compiled.spec work history
 
 -- The lines of a good report of this form, of a run of the workload, with so many entries: all that is printed of the run, the
--- plans among them, or its journal alone. Each entry has one step where each turn of the workload has one call.
+-- plans among them, or its journal alone. An entry has a step for each call of its turn.
 pub record IsGoodReport (form : Form) (compiled : SpecWithPlans) (work : Work) (lines : List (List ℕ)) (entries : ℕ) : Type 0 where
   pub history : List Entry
   pub run : Runs compiled.spec work history

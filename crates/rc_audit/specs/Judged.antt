@@ -1,21 +1,28 @@
 -- What the lines so far tell of a run.
-use Rattle.std.specs.Prelude.{◌≡◌, ℕ, List, [], ◌∷◌, ◌++◌, codes, length, sum_by}
-use Rattle.rc_audit.specs.Imports.{enumerate_from, flat_map, Pairs, Spec, Call, plain, SpecWithPlans, Entry, Step, replay, Turn, Work, HasThreads, RoundsFit, HasSingleTurns, KeepsLimits, count_line, entry_lines, final_lines, journal_lines, step_line, Runs}
+use Rattle.std.specs.Prelude.{◌≡◌, ℕ, List, [], ◌∷◌, ◌++◌, codes, decimal, length, nat_le, sum_by, if◌then◌else◌}
+use Rattle.rc_audit.specs.Imports.{enumerate_from, flat_map, Pairs, Spec, Call, SpecWithPlans, Entry, Step, replay, Turn, Work, HasThreads, RoundsFit, KeepsLimits, entry_after, count_line, group_head, entry_lines, final_lines, journal_lines, Runs}
 use Rattle.rc_audit.specs.declared.form.Form.{Form}
-use Rattle.rc_audit.specs.declared.form.Form.TheVariants.{Run, Journal}
+use Rattle.rc_audit.specs.declared.form.Form.TheVariants.{Run, Group, Journal}
 use Rattle.rc_audit.specs.GoodReports.{good_lines, plans_in_lines}
 use Rattle.rc_audit.specs.Standing.{Stands}
 
--- a workload whose reports are judged: it keeps the limits, its calls fit, and each turn has one
+-- a workload whose reports are judged: it keeps the limits, and its calls fit
 pub record IsJudgeable (spec : Spec) (work : Work) : Type 0 where
   pub threads : HasThreads work
   pub limits : KeepsLimits work
   pub fit : RoundsFit spec work.rounds
-  pub single : HasSingleTurns work
 
--- the call with the plain reply after a history
-abbrev pub step_after : Spec → List Entry → Call → Step
-step_after spec done call = record { call = call; reply = (plain spec (replay spec done) call).reply }
+-- the line begins with the place and the thread, each with a space behind it
+abbrev pub IsOfThread : ℕ → List ℕ → ℕ → Type 0
+IsOfThread place line thread = (rest : List ℕ) × (line ≡ decimal place ++ 32 ∷ (decimal thread ++ 32 ∷ rest))
+
+-- what stands before the lines of the steps of an entry that has so many
+abbrev pub turn_head : ℕ → ℕ → ℕ → List (List ℕ)
+turn_head place thread count = if nat_le 2 count then group_head place thread count ∷ [] else []
+
+-- the lines of a thread's steps in one entry
+abbrev pub turn_lines : Spec → List (List ℕ) → ℕ → ℕ → List Step → List (List ℕ)
+turn_lines spec texts place thread steps = entry_lines spec texts place (record { pass = thread; nth = 0; steps = steps })
 
 -- the lines of entries with their places, of which the first has this one
 abbrev pub entry_lines_from : Spec → List (List ℕ) → ℕ → List Entry → List (List ℕ)
@@ -24,17 +31,19 @@ entry_lines_from spec texts n history = flat_map (λ e. entry_lines spec texts e
 -- the lines before that with the number of entries
 abbrev pub lines_before : Form → SpecWithPlans → List (List ℕ)
 lines_before Run compiled = plans_in_lines compiled
+lines_before Group compiled = plans_in_lines compiled
 lines_before Journal compiled = []
 
 -- the lines behind the last entry, where the entries leave this relation
 abbrev pub lines_after : Form → Spec → List (List ℕ) → List Pairs → List (List ℕ)
 lines_after Run spec texts rows = final_lines spec texts rows
+lines_after Group spec texts rows = final_lines spec texts rows
 lines_after Journal spec texts rows = codes "end" ∷ []
 
--- the line of a thread's call behind the entries that are done
-abbrev pub next_line : SpecWithPlans → Work → List Entry → ℕ → Call → List ℕ
-next_line compiled work done thread call =
-    step_line compiled.spec work.ranks (length done) thread (step_after compiled.spec done call)
+-- the lines of the entry of a thread's turn behind the entries that are done
+abbrev pub next_lines : SpecWithPlans → Work → List Entry → ℕ → List Call → List (List ℕ)
+next_lines compiled work done thread calls =
+    entry_lines compiled.spec work.ranks (length done) (entry_after compiled.spec done thread calls)
 
 module _ (form : Form) (compiled : SpecWithPlans) (work : Work) where
   -- the lines up to that with the number of entries
@@ -53,11 +62,11 @@ module _ (form : Form) (compiled : SpecWithPlans) (work : Work) where
   abbrev pub lines_behind : List Entry → List Entry → List (List ℕ)
   lines_behind done more = entry_lines_from compiled.spec work.ranks (length done) more ++ closing_lines (done ++ more)
 
-  -- These lines are those up to the last entry that is done, from where a run goes on as it stands; and each good report
-  -- that begins with them is of a run that begins with these entries.
-  pub record IsJudged (done : List Entry) (left : ℕ → List (List Call)) (rounds : List (List Turn)) (front : List (List ℕ)) : Type 0 where
+  -- These lines, and the pending ones of the last entry that is done, are those up to that entry, from where a run goes on as
+  -- it stands; and each good report that begins with these lines is of a run that begins with the entries that are done.
+  pub record IsJudged (done : List Entry) (left : ℕ → List (List Call)) (rounds : List (List Turn)) (front pending : List (List ℕ)) : Type 0 where
     pub stands : Stands compiled.spec work done left rounds
-    pub lines : front ≡ lines_done done
+    pub lines : front ++ pending ≡ lines_done done
     pub told : (history : List Entry) (others : List (List ℕ)) → Runs compiled.spec work history
         → good_lines form compiled work history ≡ front ++ others → (more : List Entry) × (history ≡ done ++ more)
 

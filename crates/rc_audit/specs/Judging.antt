@@ -1,6 +1,6 @@
 -- Where a judge stands, and what its calls leave.
-use Rattle.std.specs.Prelude.{◌≡◌, ℕ, ◌+◌, ◌<◌, ◌≤◌, List, [], ◌∷◌, ◌++◌, drop, get_or, length, take, Option, Some, None, Result, Ok, Err, codes, decimal}
-use Rattle.rc_audit.specs.Imports.{Pairs, Memory, Call, Spec, plain, SpecWithPlans, Entry, replay, Turn, Work, final_lines, step_line}
+use Rattle.std.specs.Prelude.{◌≡◌, ◌⊎◌, ℕ, ◌+◌, ◌<◌, ◌≤◌, List, [], ◌∷◌, ◌++◌, drop, get_or, length, take, Option, Some, None, Result, Ok, Err, codes}
+use Rattle.rc_audit.specs.Imports.{Pairs, Memory, Call, Spec, plain, SpecWithPlans, Entry, after_steps, replay, Turn, Work, plain_steps, final_lines, step_line}
 use Rattle.rc_audit.specs.declared.closing.Closing.{Closing}
 use Rattle.rc_audit.specs.declared.entries.Entries.{Entries}
 use Rattle.rc_audit.specs.declared.fault.Fault.{Fault}
@@ -17,7 +17,7 @@ use Rattle.rc_audit.specs.declared.verdict.Verdict.{Verdict}
 use Rattle.rc_audit.specs.declared.verdict.Verdict.TheVariants.{Bad}
 use Rattle.rc_audit.specs.Cursors.{AreCursors, HasLeft, left_in}
 use Rattle.rc_audit.specs.GoodReports.{BeginsGood, IsGoodReport}
-use Rattle.rc_audit.specs.Judged.{IsJudgeable, IsJudged, IsWhole, closing_lines, opening_lines}
+use Rattle.rc_audit.specs.Judged.{IsJudgeable, IsJudged, IsOfThread, IsWhole, closing_lines, opening_lines, turn_lines}
 use Rattle.rc_audit.specs.Keeping.{Keeps}
 use Rattle.rc_audit.specs.Left.{NoneLeft}
 
@@ -31,7 +31,7 @@ round_at work number = get_or work.rounds number []
 pub record IsBetween (form : Form) (compiled : SpecWithPlans) (work : Work) (done : List Entry) (rounds : List (List Turn)) (front : List (List ℕ)) : Type 0 where
   pub left : ℕ → List (List Call)
   pub none : NoneLeft left
-  pub judged : IsJudged form compiled work done left rounds front
+  pub judged : IsJudged form compiled work done left rounds front []
 
 -- so before the round of this number; as many entries are done, and the relation is what they leave
 pub record IsBefore (form : Form) (compiled : SpecWithPlans) (work : Work) (relation : Relation) (number place : ℕ) (front : List (List ℕ)) : Type 0 where
@@ -56,11 +56,11 @@ pub record IsOpening (form : Form) (compiled : SpecWithPlans) (work : Work) (ope
   pub within : opening.met < length opening.lines
   pub front_is : front ≡ take opening.met opening.lines
 
--- among the entries, in a round, each thread before its next turn
+-- among the entries, in a round, each thread before its next turn, and some lines of the last entry may be pending
 pub record IsAmong (form : Form) (compiled : SpecWithPlans) (work : Work) (relation : Relation) (entries : Entries) (front : List (List ℕ)) : Type 0 where
   pub within : entries.round < length work.rounds
   pub done : List Entry
-  pub judged : IsJudged form compiled work done (left_in (round_at work entries.round) entries.cursors.items) (drop (entries.round + 1) work.rounds) front
+  pub judged : IsJudged form compiled work done (left_in (round_at work entries.round) entries.cursors.items) (drop (entries.round + 1) work.rounds) front (drop entries.met entries.lines)
   pub place_is : length done ≡ entries.place
   pub keeps : Keeps compiled.spec relation (replay compiled.spec done)
   pub count : length entries.cursors.items ≡ work.threads
@@ -69,6 +69,14 @@ pub record IsAmong (form : Form) (compiled : SpecWithPlans) (work : Work) (relat
 -- some thread has a turn left in the round
 abbrev pub HasSomeLeft : Work → Entries → Type 0
 HasSomeLeft work entries = (thread : ℕ) × HasLeft (round_at work entries.round) entries.cursors.items thread
+
+-- some lines are pending
+abbrev pub HasPending : Entries → Type 0
+HasPending entries = entries.met < length entries.lines
+
+-- lines of the round are to come
+abbrev pub HasMore : Work → Entries → Type 0
+HasMore work entries = HasPending entries ⊎ HasSomeLeft work entries
 
 -- the lines that a report ends with
 abbrev pub tail_lines : Spec → List (List ℕ) → Tail → List (List ℕ)
@@ -87,7 +95,7 @@ pub record IsClosing (form : Form) (compiled : SpecWithPlans) (work : Work) (clo
 
 abbrev pub IsAtStage : Form → SpecWithPlans → Work → Relation → Stage → List (List ℕ) → Type 0
 IsAtStage form compiled work relation (stages.Opening opening) front = IsOpening form compiled work opening front × Keeps compiled.spec relation []
-IsAtStage form compiled work relation (stages.Entries entries) front = IsAmong form compiled work relation entries front × HasSomeLeft work entries
+IsAtStage form compiled work relation (stages.Entries entries) front = IsAmong form compiled work relation entries front × HasMore work entries
 IsAtStage form compiled work relation (stages.Closing closing) front = IsClosing form compiled work closing front
 
 -- ---- the judge
@@ -143,10 +151,6 @@ verdict_at faults.Bad number = Ok (Bad number)
 
 -- ---- an entry
 
--- the line begins with the place and the thread, each with a space behind it
-abbrev pub IsOfThread : ℕ → List ℕ → ℕ → Type 0
-IsOfThread place line thread = (rest : List ℕ) × (line ≡ decimal place ++ 32 ∷ (decimal thread ++ 32 ∷ rest))
-
 -- the thread that the line is of, among those that have a turn left
 abbrev pub IsChosen : List Turn → List ℕ → ℕ → List ℕ → Option ℕ → Type 0
 IsChosen round cursors place line None = (thread : ℕ) → HasLeft round cursors thread → IsOfThread place line thread → ⊥
@@ -158,3 +162,8 @@ HasPrinted spec ranks place thread r call relation (Ok text) =
     (text ≡ step_line spec ranks place thread (record { call = call; reply = (plain spec r call).reply }))
     × Keeps spec relation (plain spec r call).relation
 HasPrinted spec ranks place thread r call relation (Err memory) = Unit {0}
+
+-- calls were made one after another, and the lines are those of their entry
+abbrev pub HaveBeenPrinted : Spec → List (List ℕ) → ℕ → ℕ → List Pairs → List Call → Relation → List (List ℕ) → Type 0
+HaveBeenPrinted spec ranks place thread r calls relation lines =
+    (lines ≡ turn_lines spec ranks place thread (plain_steps spec r calls)) × Keeps spec relation (after_steps spec r (plain_steps spec r calls))

@@ -1,11 +1,11 @@
 -- Lines that each good report has next.
 use Rattle.std.proofs.Common.{◌≡◌, ℕ, List, [], ◌∷◌, ◌++◌, length, sym, ap, ◌∙◌, subst, refl}
 use Rattle.std.proofs.lemmas.List.{append-nil, append_assoc, append_cancel_left}
-use Rattle.rc_audit.specs.Imports.{SpecWithPlans, Entry, Work, Runs}
+use Rattle.rc_audit.specs.Imports.{Call, SpecWithPlans, Entry, Turn, Work, Runs}
 use Rattle.rc_audit.specs.declared.form.Form.{Form}
 use Rattle.rc_audit.specs.GoodReports.{BeginsGood, IsGoodReport, good_lines}
-use Rattle.rc_audit.specs.Judged.{IsJudgeable, IsWhole, closing_lines, lines_behind, opening_lines}
-use Rattle.rc_audit.specs.JudgedLaws.{judged_begins, judged_start, run_begins}
+use Rattle.rc_audit.specs.Judged.{IsJudgeable, IsJudged, IsWhole, closing_lines, lines_behind, opening_lines}
+use Rattle.rc_audit.specs.JudgedLaws.{judged_begins, judged_goes_on, judged_start, run_begins}
 use Rattle.rc_audit.specs.Standing.{no_turns}
 
 module _ (form : Form) (compiled : SpecWithPlans) (work : Work) where
@@ -62,12 +62,22 @@ module _ (form : Form) (compiled : SpecWithPlans) (work : Work) where
       → opening_lines form compiled work ≡ front ++ wanted ∷ later → IsWanted front wanted
   opening_is_wanted can front later wanted opening = record {
     begins = begins_shorter front (wanted ∷ later) (subst (BeginsGood form compiled work) opening
-        (judged_begins form compiled work can [] no_turns work.rounds (opening_lines form compiled work) (judged_start form compiled work can)));
+        (judged_begins form compiled work can [] no_turns work.rounds (opening_lines form compiled work) [] (judged_start form compiled work can)));
     next = λ history others run printed.
         let behind = lines_behind form compiled work [] history in
         let whole : front ++ others ≡ front ++ (wanted ∷ later ++ behind) =
         sym printed ∙ run_begins form compiled work can history run ∙ ap (λ l. l ++ behind) opening ∙ append_assoc front (wanted ∷ later) behind in
         (later ++ behind, append_cancel_left front others (wanted ∷ later ++ behind) whole);
+  }
+
+  -- a line that is pending
+  pub pending_is_wanted : (can : IsJudgeable compiled.spec work) (done : List Entry) (left : ℕ → List (List Call)) (rounds : List (List Turn)) (front later : List (List ℕ)) (wanted : List ℕ)
+      → IsJudged form compiled work done left rounds front (wanted ∷ later) → IsWanted front wanted
+  pending_is_wanted can done left rounds front later wanted judged = record {
+    begins = judged_begins form compiled work can done left rounds front (wanted ∷ later) judged;
+    next = λ history others run printed.
+        let goes = judged_goes_on form compiled work can done left rounds front (wanted ∷ later) judged history others run printed in
+        (later ++ goes.0, goes.1);
   }
 
   -- ---- the final relation

@@ -4,7 +4,7 @@ ghost use Rattle.std.specs.Prelude.{◌≡◌, ◌≤◌, ◌^◌, [], length, I
 ghost use Rattle.rc_text.specs.Lines.{IsLineStart, content_from, past_end_of};
 ghost use Rattle.rc_reader.specs.Answers.{rest_place};
 ghost use Rattle.rc_work.specs.Fitting.{HasThreads, RoundsFit};
-ghost use Rattle.rc_work.specs.Limits.{HasSingleTurns, KeepsLimits};
+ghost use Rattle.rc_work.specs.Limits.{KeepsLimits};
 ghost use Rattle.rc_audit.specs.GoodReports.{IsVerdict};
 ghost use Rattle.rc_audit.specs.Judging.{HasPassed, judged_form, judged_plans, judged_work, verdict_at};
 
@@ -20,7 +20,7 @@ use rc_tuple::Memory;
 use rc_work::Work;
 use std::alloc::Global;
 
-/// Judges the lines behind a workload whose turns are single calls, in a text of at most 2^24 bytes:
+/// Judges the lines behind a workload, in a text of at most 2^24 bytes:
 /// whether they are what is printed of a run of the workload with these plans, or its journal alone,
 /// as the form says, or which is the first with which no such text begins. Blank lines and comments
 /// among them are passed over. The seed is that of the hash tables. Costs a walk over the text, and
@@ -39,7 +39,6 @@ pub fn audit(
     requires limits { KeepsLimits work.now }
     requires threads { HasThreads work.now }
     requires fit { RoundsFit compiled.now.spec work.now.rounds }
-    requires single { HasSingleTurns work.now }
     ensures { IfOk result (IsVerdict form compiled.now work.now
         (past_end_of bytes.now) (content_from (rest_place bytes.now rest))) }
 {

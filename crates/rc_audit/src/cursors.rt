@@ -2,7 +2,8 @@
 
 ghost use Rattle.std.specs.Prelude.{◌≡◌, ◌≤◌, ◌<◌, ◌+◌, ℕ, length, true, false, IfOk};
 ghost use Rattle.rc_audit.specs.Cursors.{AreCursors, HasGoneOn, HasLeft, HaveBegun, IsTurnOf, turns_from};
-ghost use Rattle.rc_audit.specs.Judging.{IsChosen, IsOfThread};
+ghost use Rattle.rc_audit.specs.Judged.{IsOfThread};
+ghost use Rattle.rc_audit.specs.Judging.{IsChosen};
 
 use rc_text::push_u64;
 use rc_tuple::Memory;

@@ -3,7 +3,7 @@
 ghost use Rattle.std.specs.Prelude.{◌≡◌, ℕ, ◌≤◌, List, [], ◌∷◌, ◌++◌, length, IfOk, OnOk};
 ghost use Rattle.rc_tuple.specs.Tuple.{Pairs};
 ghost use Rattle.rc_work.specs.Fitting.{HasThreads, RoundsFit};
-ghost use Rattle.rc_work.specs.Limits.{HasSingleTurns, KeepsLimits};
+ghost use Rattle.rc_work.specs.Limits.{KeepsLimits};
 ghost use Rattle.rc_audit.specs.GoodReports.{BeginsGood};
 ghost use Rattle.rc_audit.specs.Judged.{IsJudgeable, lines_after};
 ghost use Rattle.rc_audit.specs.Judging.{HasPassed, IsAtStage, IsBefore, IsFirstFilled, IsOfSame, HasEntries, Judges, judged_form, judged_plans, judged_work, tail_lines};
@@ -14,6 +14,7 @@ use crate::cursors::first_cursors;
 use crate::entries::Entries;
 use crate::fault::Fault;
 use crate::form::Form;
+use crate::meeting::TextLines;
 use crate::opening::Opening;
 use crate::relation::Relation;
 use crate::stage::Stage;
@@ -39,8 +40,7 @@ pub struct Judge<'a> {
 }
 
 impl<'a> Judge<'a> {
-    /// Before the first line of a report of this form, of the workload, whose turns are single calls.
-    /// The seed is that of the hash tables.
+    /// Before the first line of a report of this form, of the workload. The seed is that of the hash tables.
     pub fn new(
         alloc: Global,
         seed: Seed,
@@ -51,7 +51,6 @@ impl<'a> Judge<'a> {
         requires limits { KeepsLimits work.now }
         requires threads { HasThreads work.now }
         requires fit { RoundsFit compiled.now.spec work.now.rounds }
-        requires single { HasSingleTurns work.now }
         ensures form_is { IfOk result (λ judge. judged_form judge ≡ form) }
         ensures compiled_is { IfOk result (λ judge. judged_plans judge ≡ compiled.now) }
         ensures work_is { IfOk result (λ judge. judged_work judge ≡ work.now) }
@@ -71,7 +70,7 @@ impl<'a> Judge<'a> {
     /// Passes the next line, where a good report begins with the lines so far and this one. A line is
     /// without its line feed and a carriage return before that, and blank lines and comments, which
     /// `audit` passes over, are none. After a fault the judge is of no use. A line costs the bytes of
-    /// the line that is wanted in its place. An entry's costs also what its call's plan does, and over
+    /// the line that is wanted in its place. An entry's first costs also what the plans of its calls do, and over
     /// a round the entries' lines cost a walk over it for each thread. Where the relation is to come,
     /// the last of all entries costs the rows of each edge.
     pub fn judge_line(&mut self, line: &[u8]) -> Result<(), Fault>
@@ -110,7 +109,7 @@ impl<'a> Judge<'a> {
                     &mut self.relation,
                     line,
                 )?;
-                if !entries.has_some_left(self.work) {
+                if !entries.has_more(self.work) {
                     let next = entries.round + 1;
                     let place = entries.place;
                     self.stage = self.stage_from(next, place)?;
@@ -156,6 +155,8 @@ impl<'a> Judge<'a> {
                 round,
                 cursors: first_cursors(self.alloc, rounds[round].list(), self.work.threads)?,
                 place,
+                lines: TextLines::new(self.alloc),
+                met: 0,
             }));
         }
         Ok(Stage::Closing(Closing {
@@ -176,7 +177,7 @@ impl<'a> Judge<'a> {
             (judged_work self.now).ranks r) }
     {
         match self.form {
-            Form::Run => {
+            Form::Run | Form::Group => {
                 let accepted = self.compiled.accepted();
                 let tuples = self.relation.tuples(self.alloc, self.seed, accepted)?;
                 Ok(Tail::Relation(tuples))

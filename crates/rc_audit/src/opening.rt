@@ -12,16 +12,13 @@ ghost use Rattle.rc_audit.specs.Judging.{HasMet};
 
 use crate::fault::Fault;
 use crate::form::Form;
-use crate::meeting::meet;
+use crate::meeting::{TextLines, meet_at};
 use rc_plan::{Compiled, Statement, push_statement};
 use rc_spec::{Named, Spec};
 use rc_text::push_bytes;
 use rc_tuple::{Memory, SmallList};
 use rc_work::{Work, push_count_line};
 use std::alloc::Global;
-
-/// Lines, each without its line feed.
-type TextLines = SmallList<SmallList<u8>>;
 
 /// The opening lines, of which some came.
 #[derive(Debug, Drop)]
@@ -57,7 +54,7 @@ impl Opening {
         ensures next { OnOk result (self.new ≡ record self.old { met = self.old.met + 1 }) }
         ensures last { IfOk result (λ last. last ≡ (self.new.met == length self.new.lines)) }
     {
-        meet(line, self.lines.list()[self.met].list())?;
+        meet_at(line, &self.lines, self.met)?;
         self.met += 1;
         Ok(self.met == self.lines.list().len())
     }
@@ -68,7 +65,7 @@ fn print_before(alloc: Global, form: Form, compiled: &Compiled) -> Result<TextLi
     ensures { IfOk result (λ lines. lines ≡ lines_before form compiled.now) }
 {
     match form {
-        Form::Run => print_plans(alloc, compiled),
+        Form::Run | Form::Group => print_plans(alloc, compiled),
         Form::Journal => Ok(TextLines::new(alloc)),
     }
 }

@@ -1,5 +1,6 @@
 #!/usr/bin/env python3
-"""Writes audit.case: what `relc audit` says of printed runs, and `relc audit bare` of journals alone, whole, changed and cut.
+"""Writes audit.case: what `relc audit` says of printed runs, `relc audit group` of those with groups, and `relc audit bare` of journals
+alone, whole, changed and cut.
 
 What it is to say is told here by hand, from docs/LANGUAGE.md ("The judge"). Each answer is also
 worked out by the definition itself: the reports of all schedules of the workload are printed, by
@@ -8,6 +9,7 @@ begins. That shares nothing with the program, which goes over the lines once.
 
     python3 audit.py            writes audit.case beside itself
     python3 audit.py judge      judges the text on standard input, whose calls must be few
+    python3 audit.py judge group    judges one whose calls may stand in groups
     python3 audit.py judge bare     judges one with a journal alone
 """
 
@@ -60,19 +62,26 @@ end""".split("\n")
 
 
 def rounds_of(lines):
-    """The rounds of a workload's lines, each the calls of each thread in order; and how many threads there are."""
-    threads, rounds = int(lines[0].split()[1]), []
+    """The rounds of a workload's lines, each the turns of each thread in order: a call, or those of a group."""
+    threads, rounds, more = int(lines[0].split()[1]), [], 0
     for line in lines[1:-1]:
         if line == "round":
             rounds.append([[] for _ in range(threads)])
+            continue
+        thread, op, *values = model.words_of(line)
+        if op == "&":
+            rounds[-1][thread].append([])
+            more = values[0]
+        elif more:
+            rounds[-1][thread][-1].append((thread, op, values))
+            more -= 1
         else:
-            thread, op, *values = model.words_of(line)
-            rounds[-1][thread].append((thread, op, values))
+            rounds[-1][thread].append([(thread, op, values)])
     return rounds
 
 
 def orders(queues):
-    """All orders of a round's calls in which each thread keeps its own."""
+    """All orders of a round's turns in which each thread keeps its own."""
     if not any(queues):
         yield []
     for thread, queue in enumerate(queues):
@@ -83,7 +92,7 @@ def orders(queues):
 
 
 def schedules(rounds):
-    """All orders of the calls of all rounds, one round behind another."""
+    """All orders of the turns of all rounds, one round behind another."""
     if not rounds:
         yield []
         return
@@ -92,8 +101,20 @@ def schedules(rounds):
             yield first + others
 
 
+def report_of(spec, turns):
+    """The lines of the journal, in which a group has a line for its head, and of the final relation."""
+    relation, lines = [], ["journal %d" % len(turns)]
+    for place, turn in enumerate(turns):
+        if len(turn) > 1:
+            lines.append("%d %d & %d" % (place, turn[0][0], len(turn)))
+        for thread, op, values in turn:
+            reply = model.step(spec, relation, op, values)
+            lines.append("%d %d %s -> %s" % (place, thread, " ".join([op] + [model.printed_value(value) for value in values]), reply))
+    return lines + ["final %d" % len(relation)] + [model.printed_tuple(row) for row in relation] + ["end"]
+
+
 def journal_of(report):
-    """The lines of a report's journal alone: the count and the entries, and then `end`."""
+    """The lines of a report's journal alone, without groups: the count and the entries, and then `end`."""
     count = int(report[0].split()[1])
     return report[: 1 + count] + ["end"]
 
@@ -102,7 +123,7 @@ def good_reports(spec_lines, work_lines, bare=False):
     """The lines of what each run of the workload prints, or of its journal alone."""
     spec = model.read_spec(list(spec_lines))
     plans = model.plans_of(spec)
-    reports = [model.report_of(spec, calls) for calls in schedules(rounds_of(work_lines))]
+    reports = [report_of(spec, turns) for turns in schedules(rounds_of(work_lines))]
     return [journal_of(report) if bare else plans + report for report in reports]
 
 
@@ -137,8 +158,9 @@ def judged(spec_lines, work_lines, text, bare=False):
 class Cases:
     """The cases of one specification and workload, which stand behind each other in the file."""
 
-    def __init__(self, name, spec, work, bare=False):
+    def __init__(self, name, spec, work, bare=False, word="bare"):
         self.name, self.spec, self.work, self.bare = name, spec, work, bare
+        self.words = "words relc audit " + word if bare or word != "bare" else "words relc audit"
         self.plans = [] if bare else model.plans_of(model.read_spec(list(spec)))
         self.first = good_reports(spec, work, bare)[0]
         self.out = []
@@ -160,7 +182,7 @@ class Cases:
         text = "".join(line + ends.get(number, "\n") for number, line in enumerate(whole, 1))
         found = judged(self.spec, self.work, text, self.bare)
         assert found == wanted, (title, found, wanted)
-        self.out += ["case " + title, "words relc audit bare" if self.bare else "words relc audit"]
+        self.out += ["case " + title, self.words]
         at = 0
         if not ends:
             self.out += ["use %s" % self.name]
@@ -382,10 +404,49 @@ def refused():
     out += case("a workload must be there", spec, "refused S1 line 23")
     out += case("a workload must have its end", spec + ["|work 1", "|round"], "refused S8 line 25")
     out += case("a call has its values", spec + ["|work 1", "|round", "|0 ins 1 2 10", "|0 succ 1 2", "|end", "|end"], "refused W2 line 26")
-    out += case("groups are not judged", spec + ["|work 1", "|round", "|0 & 2", "|0 succ 1", "|0 succ 1", "|end"], "refused W1 line 25")
+    out += case("`audit` judges no groups", spec + ["|work 1", "|round", "|0 & 2", "|0 succ 1", "|0 succ 1", "|end"], "refused W1 line 25")
     out += case("audit refuses a longer input for its size", ["fill 10 16777217"], "refused size")
     out += case("audit reads the longest input", ["fill 10 16777216"], "refused S1 line 16777217")
     return out
+
+
+def groups():
+    work = ["work 2", "round", "0 ins 1 2 10", "1 & 2", "1 find 1 2", "1 del 1 2", "end"]
+    cases = Cases("audit_groups", GRAPH, work, word="group")
+    cases.text("audit_groups", GRAPH + work)
+    cases.text("plans_audit_groups", cases.plans)
+    ins, head, find, delete = "0 ins 1 2 10 -> inserted", "1 & 2", "1 find 1 2 -> ", "1 del 1 2 -> "
+
+    def report(entries, rows):
+        return cases.plans + ["journal 2"] + entries + ["final %d" % len(rows)] + rows + ["end"]
+
+    first = ["0 " + ins, "1 " + head, "1 " + find + "1 rows (10)", "1 " + delete + "removed (1 2 10)"]
+    last = ["0 " + head, "0 " + find + "0 rows", "0 " + delete + "absent", "1 " + ins]
+    cases.out += heading(
+        "Groups",
+        "`audit group` judges what `group` printed: the calls of a group stand together behind its head. The report begins on line",
+        "30, its entries on line 72.",
+    )
+    cases.case("a group behind another thread's call is legal", report(first, []), "legal 2")
+    cases.case("a group before another thread's call is legal", report(last, ["(1 2 10)"]), "legal 2")
+    for title, entries, wanted in (
+        ("no other call stands within a group", last[:2] + [last[3], last[2]], "bad line 74"),
+        ("nor between its head and its first call", [last[0], last[3]] + last[1:3], "bad line 73"),
+        ("a group has its head", first[:1] + first[2:], "bad line 73"),
+        ("a head has the number of the group's calls", [first[0], "1 1 & 3"] + first[2:], "bad line 73"),
+        ("the calls of a group keep their order", first[:2] + ["1 " + delete + "removed (1 2 10)", "1 " + find + "0 rows"], "bad line 74"),
+        ("each call of a group has the plain reply", first[:2] + ["1 " + find + "0 rows", first[3]], "bad line 74"),
+        ("and so has its last one", first[:3] + ["1 " + delete + "absent"], "bad line 75"),
+        ("the calls of a group have one place", first[:3] + ["2 " + delete + "removed (1 2 10)"], "bad line 75"),
+        ("and are of one thread", first[:2] + ["1 0 find 1 2 -> 1 rows (10)", first[3]], "bad line 74"),
+        ("a group is made once", first + first[1:], "bad line 76"),
+    ):
+        cases.case(title, report(entries, []), wanted)
+    cases.case("a report that ends behind a group's head is bad", behind(report(first, []), first[1]), "bad line 74")
+    cases.case("and so is one that ends within a group", behind(report(first, []), first[2]), "bad line 75")
+    single = Cases("audit_graph", GRAPH, ["work 1", "round", "0 ins 1 2 10", "0 succ 1", "end"], word="group")
+    single.case("`audit group` judges a run without groups too", single.first, "legal 2")
+    return cases.out + single.out
 
 
 def journals():
@@ -452,17 +513,17 @@ def refused_journals():
 
 def all_cases():
     lines = [
-        "# What `relc audit` says of printed runs, and `relc audit bare` of journals alone, whole, changed and cut (docs/LANGUAGE.md,",
-        "# \"The judge\"). Written by audit.py.",
+        "# What `relc audit` says of printed runs, `relc audit group` of those with groups, and `relc audit bare` of journals alone, whole,",
+        "# changed and cut (docs/LANGUAGE.md, \"The judge\"). Written by audit.py.",
         "",
     ]
     lines += heading("One thread", "The specification has 22 lines and the workload 5; the report begins on line 28, its entries on line 70.")
-    lines += one_thread() + barrier() + orders_of_threads() + few_calls() + texts() + refused()
+    lines += one_thread() + barrier() + orders_of_threads() + few_calls() + texts() + refused() + groups()
     return lines + journals() + journals_of_threads() + refused_journals()
 
 
 def main():
-    if sys.argv[1:] in (["judge"], ["judge", "bare"]):
+    if sys.argv[1:] in (["judge"], ["judge", "group"], ["judge", "bare"]):
         text = sys.stdin.read()
         lines = [line for _, line in content(text)[0]]
         first = lines.index("end") + 1

@@ -7,7 +7,7 @@ use Rattle.rc_spec.specs.Names.{is_name}
 use Rattle.rc_command.specs.declared.command.Command.{Command}
 use Rattle.rc_command.specs.declared.command.Command.TheVariants.{OfText, Big}
 use Rattle.rc_command.specs.declared.command.TextCommand.{TextCommand}
-use Rattle.rc_command.specs.declared.command.TextCommand.TheVariants.{Check, Plan, Run, Group, Audit, AuditJournal, Hand, Open, Dot, DotPlan}
+use Rattle.rc_command.specs.declared.command.TextCommand.TheVariants.{Check, Plan, Run, Group, Audit, AuditGroup, AuditJournal, Hand, Open, Dot, DotPlan}
 
 -- the command of a name behind which no word may stand
 abbrev pub command_named : List ℕ → Option TextCommand
@@ -22,9 +22,10 @@ command_named name = if bytes_eq name (codes "check") then Some Check
 abbrev pub dot_of : List ℕ → Option Command
 dot_of op = if is_name op then Some (OfText (DotPlan op)) else None
 
--- `audit` with a word: what stands behind the workload is the journal alone
+-- `audit` with a word: what stands behind the workload is the journal alone, or what `group` is said to have printed
 abbrev pub audit_of : List ℕ → Option Command
-audit_of form = if bytes_eq form (codes "bare") then Some (OfText AuditJournal) else None
+audit_of form = if bytes_eq form (codes "bare") then Some (OfText AuditJournal)
+    else (if bytes_eq form (codes "group") then Some (OfText AuditGroup) else None)
 
 -- a seed has 31 bits, and a generated workload 1 to 20,000 calls
 abbrev pub big_within : ℕ → ℕ → Option Command

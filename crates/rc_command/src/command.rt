@@ -28,6 +28,8 @@ pub enum TextCommand {
     /// Reads a specification, a workload and what `run` is said to have printed for them, and says
     /// whether it may have.
     Audit,
+    /// Does so with a workload in which some calls may stand as groups, and what `group` is said to have printed.
+    AuditGroup,
     /// Reads a specification, a workload and the journal of a run, which stands there alone, and says
     /// whether the workload has such a run.
     AuditJournal,
@@ -227,6 +229,7 @@ fn audit_in(form: &str) -> Option<Command>
 {
     match form {
         "bare" => Some(Command::OfText(TextCommand::AuditJournal)),
+        "group" => Some(Command::OfText(TextCommand::AuditGroup)),
         _ => None,
     }
 }

@@ -1,11 +1,11 @@
--- What `run` may write for an input is legal behind it, and so is its journal alone; and `audit` has one answer to an input.
+-- What `run` or `group` may write for an input is legal behind it, and so is the journal of a run alone; and `audit` has one answer to an input.
 use Rattle.std.proofs.Common.{◌≡◌, ℕ, suc, ◌<◌, List, [], ◌∷◌, ◌++◌, length, map, Result, Ok, Err, refl, sym, ap, ◌∙◌, subst, inl, inr, arith}
-use Rattle.rc_text_laws.specs.Imports.{codes, AllByRecursion, flat_map, range_with_len, in_range_bounds, In, ContentLine, IsPrintable, TextPlace, bytes_of_content, past_end_of, printed_lines, content-printed, IsAccepted, IsSealed, one_first_broken, refused_not_accepted, op_at, refusal_text, Refusal, Spec, plan_at, Statement, one_planned, planned_accepted, replay, Entry, Broken, Reading, spec_reading, HasThreads, WorkPart, part_reading, row_text, work_reading, count_line, final_lines, journal_lines, Runs, place_after, Nothing, Work, Audit, AuditJournal, Run, IsVerdict, bare_lines, good_lines, op_lines, plans_in_lines, run_lines, plan_lines_are_written, one_verdict, Form, Legal, Answers, AnswersAudit, AnswersPart, AnswersRun, AnswersWork, IsJudgement, IsReport, audit_for, plans_and_report, verdict_status, verdict_text, part_threads, ArePlanned, op_text, IsReadAs, Status, Done, Refused}
+use Rattle.rc_text_laws.specs.Imports.{also_in, codes, AllByRecursion, flat_map, range_with_len, in_range_bounds, In, ContentLine, IsPrintable, TextPlace, bytes_of_content, past_end_of, printed_lines, content-printed, IsAccepted, IsSealed, one_first_broken, refused_not_accepted, op_at, refusal_text, Refusal, Spec, plan_at, Statement, one_planned, planned_accepted, replay, Entry, Broken, Reading, spec_reading, HasThreads, WorkPart, part_reading, row_text, work_reading, count_line, final_lines, journal_lines, Runs, place_after, Nothing, Work, Audit, AuditJournal, Run, IsVerdict, bare_lines, good_lines, op_lines, plans_in_lines, run_lines, plan_lines_are_written, one_verdict, Form, Legal, Answers, AnswersAudit, AnswersPart, AnswersRun, AnswersWork, IsJudgement, IsReport, audit_for, plans_and_report, verdict_status, verdict_text, part_threads, ArePlanned, op_text, IsReadAs, Status, Done, Refused, AuditGroup, Group, Also, Groups}
 use Rattle.std.proofs.lemmas.Grind.{flat_map-append}
 use Rattle.std.proofs.lemmas.List.{append_assoc}
 use Rattle.rc_work.specs.Report.{report}
 use Rattle.rc_audit.specs.declared.form.Form.TheVariants as forms
-use Rattle.rc_text_laws.specs.BehindLaws.{IsEnded, content_behind, read_behind}
+use Rattle.rc_text_laws.specs.BehindLaws.{IsEnded, content_behind, read_behind, with_more}
 use Rattle.rc_text_laws.specs.LegalLaws.{journal_shown}
 use Rattle.rc_text_laws.specs.PrintedRunLaws.{content_report, printable, printable_append, printable_plan}
 use Rattle.rc_text_laws.specs.ReadLaws.{is_read_work}
@@ -51,8 +51,8 @@ plans_printable spec plans (op ∷ ops) each =
     printable_append (op_lines spec plans op) (flat_map (op_lines spec plans) ops) (each op (inl refl))
     (plans_printable spec plans ops (λ o m. each o (inr m)))
 
-module _ (input : List ℕ) (reading : Reading) (work : Work) (read : spec_reading input ≡ Ok reading) (accepted : IsAccepted reading.spec)
-    (works : work_reading Nothing reading.spec (place_after input reading) ≡ Ok work) where
+module _ (also : Also) (input : List ℕ) (reading : Reading) (work : Work) (read : spec_reading input ≡ Ok reading) (accepted : IsAccepted reading.spec)
+    (works : work_reading also reading.spec (place_after input reading) ≡ Ok work) where
   abbrev given : Spec
   given = reading.spec
 
@@ -60,7 +60,7 @@ module _ (input : List ℕ) (reading : Reading) (work : Work) (read : spec_readi
   report_printable : (history : List Entry) → Runs given work history → AllByRecursion IsPrintable (report given work.ranks history (replay given history))
   report_printable history run =
       let is = reading_can_be_written input reading read in
-      let of = is_read_work Nothing given (place_after input reading) work is.well_named is.in_range works in
+      let of = is_read_work also given (place_after input reading) work is.well_named is.in_range works in
       let shown = journal_shown given work.ranks history is.in_range (journal given work history of.limits of.known of.fit run) in
       let rows = replay given history in
       printable (report given work.ranks history rows) (text_report given work.ranks of.texts history rows is.well_named shown.1 shown.0)
@@ -92,12 +92,12 @@ module _ (input : List ℕ) (reading : Reading) (work : Work) (read : spec_readi
       )
 
   -- what is printed of a run in a form is legal behind the input
-  printed_legal : (form : Form) (out : List ℕ) (plans : List (List Statement)) (history : List Entry) → ArePlanned given plans → Runs given work history → IsEnded input
+  printed_legal : (form : Form) → also_in form ≡ also → (out : List ℕ) (plans : List (List Statement)) (history : List Entry) → ArePlanned given plans → Runs given work history → IsEnded input
       → out ≡ printed_lines (good_lines form (record { spec = given; plans = plans }) work history)
       → AllByRecursion IsPrintable (good_lines form (record { spec = given; plans = plans }) work history)
       → AnswersAudit form (input ++ out) (spec_reading (input ++ out)) (verdict_text (Legal (length history))) Done
-  printed_legal form out plans history planned run ended printed shown =
-      let behind = read_behind Nothing input out reading work ended read works in
+  printed_legal form same out plans history planned run ended printed shown =
+      let behind = read_behind also input out reading work ended read works in
       let lines = good_lines form (record { spec = given; plans = plans }) work history in
       let judged : IsJudgement form given work (past_end_of (input ++ out)) (content_behind input out) (verdict_text (Legal (length history))) Done = record {
         plans = plans;
@@ -114,42 +114,48 @@ module _ (input : List ℕ) (reading : Reading) (work : Work) (read : spec_readi
       subst (λ (r : Result Reading Broken). AnswersAudit form (input ++ out) r (verdict_text (Legal (length history))) Done) (sym behind.read)
       (inl (
         accepted,
-        subst (λ (r : Result WorkPart Broken). AnswersPart form given (past_end_of (input ++ out)) r (verdict_text (Legal (length history))) Done)
-            (sym behind.part) judged,
+        subst (λ (x : Also). AnswersPart form given (past_end_of (input ++ out)) (part_reading x given (place_after (input ++ out) (with_more reading (content_behind input out))))
+            (verdict_text (Legal (length history))) Done) (sym same)
+            (subst (λ (r : Result WorkPart Broken). AnswersPart form given (past_end_of (input ++ out)) r (verdict_text (Legal (length history))) Done) (sym behind.part) judged),
       ))
 
-  legal_behind : (out : List ℕ) → IsEnded input → IsReport given work out Done
-      → (entries : ℕ) × AnswersAudit forms.Run (input ++ out) (spec_reading (input ++ out)) (verdict_text (Legal entries)) Done
-  legal_behind out ended is = (
-    length is.history,
-    printed_legal forms.Run out is.plans is.history is.by_plans is.runs ended (is.printed ∙ sym (run_lines_are_written given is.plans work is.history))
-        (run_printable is.plans is.history is.by_plans is.runs),
-  )
+  -- so is what is printed of all of it
+  legal_behind : (form : Form) → also_in form ≡ also
+      → ((plans : List (List Statement)) (history : List Entry) → good_lines form (record { spec = given; plans = plans }) work history ≡ run_lines (record { spec = given; plans = plans }) work history)
+      → (out : List ℕ) → IsEnded input → IsReport given work out Done
+      → (entries : ℕ) × AnswersAudit form (input ++ out) (spec_reading (input ++ out)) (verdict_text (Legal entries)) Done
+  legal_behind form same lines out ended is =
+      let whole = lines is.plans is.history in (
+        length is.history,
+        printed_legal form same out is.plans is.history is.by_plans is.runs ended
+            (is.printed ∙ sym (run_lines_are_written given is.plans work is.history) ∙ ap printed_lines (sym whole))
+            (subst (AllByRecursion IsPrintable) (sym whole) (run_printable is.plans is.history is.by_plans is.runs)),
+      )
 
 done_is_not_refused : Done ≡ Refused → ⊥
 done_is_not_refused e = cc
 
--- what an input is read as, with the report of a run of it, where `run` wrote one
-record HasWrittenRun (input out : List ℕ) : Type 0 where
+-- what an input is read as, with the report of a run of it, where `run` or `group` wrote one
+record HasWrittenRun (also : Also) (input out : List ℕ) : Type 0 where
   reading : Reading
   work : Work
   read : spec_reading input ≡ Ok reading
   accepted : IsAccepted reading.spec
-  works : work_reading Nothing reading.spec (place_after input reading) ≡ Ok work
+  works : work_reading also reading.spec (place_after input reading) ≡ Ok work
   report_is : IsReport reading.spec work out Done
 
-written_work : (input out : List ℕ) (reading : Reading) (found : Result Work Broken) → spec_reading input ≡ Ok reading → IsAccepted reading.spec
-    → work_reading Nothing reading.spec (place_after input reading) ≡ found → AnswersWork reading.spec found out Done → HasWrittenRun input out
-written_work input out reading (Err broken) read accepted works is = absurd (done_is_not_refused is.1)
-written_work input out reading (Ok work) read accepted works is =
+written_work : (also : Also) (input out : List ℕ) (reading : Reading) (found : Result Work Broken) → spec_reading input ≡ Ok reading → IsAccepted reading.spec
+    → work_reading also reading.spec (place_after input reading) ≡ found → AnswersWork reading.spec found out Done → HasWrittenRun also input out
+written_work also input out reading (Err broken) read accepted works is = absurd (done_is_not_refused is.1)
+written_work also input out reading (Ok work) read accepted works is =
     record { reading = reading; work = work; read = read; accepted = accepted; works = works; report_is = is }
 
-written_reading : (input out : List ℕ) (found : Result Reading Broken) → spec_reading input ≡ found → AnswersRun Nothing input found out Done
-    → HasWrittenRun input out
-written_reading input out (Err broken) read is = absurd (done_is_not_refused is.1)
-written_reading input out (Ok reading) read (inl (accepted, is)) =
-    written_work input out reading (work_reading Nothing reading.spec (place_after input reading)) read accepted refl is
-written_reading input out (Ok reading) read (inr (refusal, first, is)) = absurd (done_is_not_refused is.1)
+written_reading : (also : Also) (input out : List ℕ) (found : Result Reading Broken) → spec_reading input ≡ found → AnswersRun also input found out Done
+    → HasWrittenRun also input out
+written_reading also input out (Err broken) read is = absurd (done_is_not_refused is.1)
+written_reading also input out (Ok reading) read (inl (accepted, is)) =
+    written_work also input out reading (work_reading also reading.spec (place_after input reading)) read accepted refl is
+written_reading also input out (Ok reading) read (inr (refusal, first, is)) = absurd (done_is_not_refused is.1)
 
 -- Whatever `run` may write for an input that ends with a line feed is legal where it stands behind that input.
 abbrev pub RunsAreLegal : Type 0
@@ -158,8 +164,18 @@ RunsAreLegal = (input out : List ℕ) → IsEnded input → Answers Run input ou
 
 pub runs_are_legal : RunsAreLegal
 runs_are_legal input out ended answered =
-    let run = written_reading input out (spec_reading input) refl answered in
-    legal_behind input run.reading run.work run.read run.accepted run.works out ended run.report_is
+    let run = written_reading Nothing input out (spec_reading input) refl answered in
+    legal_behind Nothing input run.reading run.work run.read run.accepted run.works forms.Run refl (λ plans history. refl) out ended run.report_is
+
+-- And so is what `group` may write.
+abbrev pub GroupsAreLegal : Type 0
+GroupsAreLegal = (input out : List ℕ) → IsEnded input → Answers Group input out Done
+    → (entries : ℕ) × Answers AuditGroup (input ++ out) (verdict_text (Legal entries)) Done
+
+pub groups_are_legal : GroupsAreLegal
+groups_are_legal input out ended answered =
+    let run = written_reading Groups input out (spec_reading input) refl answered in
+    legal_behind Groups input run.reading run.work run.read run.accepted run.works forms.Group refl (λ plans history. refl) out ended run.report_is
 
 -- What `run` wrote for an input, a run of what the input is read as, in three parts: the lines of the plans; those of
 -- the journal, from the line with the number of its entries to its last entry; and those of the final relation. The
@@ -192,7 +208,7 @@ run_lines-parts spec plans work history =
     (count_line (codes "journal") (length history) ∷ journal_lines spec work.ranks history)
     (final_lines spec work.ranks (replay spec history)))
 
-legal_journal : (input out : List ℕ) → IsEnded input → HasWrittenRun input out → HasLegalJournal input out
+legal_journal : (input out : List ℕ) → IsEnded input → HasWrittenRun Nothing input out → HasLegalJournal input out
 legal_journal input out ended run =
     let spec = run.reading.spec in
     let is = run.report_is in
@@ -209,9 +225,9 @@ legal_journal input out ended run =
       plans_are = refl;
       journal_is = refl;
       final_is = refl;
-      legal = printed_legal input run.reading run.work run.read run.accepted run.works forms.Journal
+      legal = printed_legal Nothing input run.reading run.work run.read run.accepted run.works forms.Journal refl
           (printed_lines (bare_lines spec run.work is.history)) is.plans is.history is.by_plans is.runs ended refl
-          (journal_printable input run.reading run.work run.read run.accepted run.works is.history is.runs);
+          (journal_printable Nothing input run.reading run.work run.read run.accepted run.works is.history is.runs);
     }
 
 -- And so is the journal in what `run` may write for such an input, alone, with `end` behind it.
@@ -220,7 +236,7 @@ JournalsAreLegal = (input out : List ℕ) → IsEnded input → Answers Run inpu
 
 pub journals_are_legal : JournalsAreLegal
 journals_are_legal input out ended answered =
-    legal_journal input out ended (written_reading input out (spec_reading input) refl answered)
+    legal_journal input out ended (written_reading Nothing input out (spec_reading input) refl answered)
 
 -- ---- one input has one answer
 
@@ -253,11 +269,11 @@ one_judgement form spec work past_end lines text other status again sealed threa
     (a.written.0 ∙ ap verdict_text same ∙ sym b.written.0, a.written.1 ∙ ap verdict_status same ∙ sym b.written.1)
 
 one_part : (form : Form) (spec : Spec) (place : TextPlace) (past_end : ℕ) (found : Result WorkPart Broken) (text other : List ℕ) (status again : Status) → IsSealed spec
-    → part_reading Nothing spec place ≡ found → AnswersPart form spec past_end found text status → AnswersPart form spec past_end found other again
+    → part_reading (also_in form) spec place ≡ found → AnswersPart form spec past_end found text status → AnswersPart form spec past_end found other again
     → AreOne text status other again
 one_part form spec place past_end (Err broken) text other status again sealed is a b = (a.0 ∙ sym b.0, a.1 ∙ sym b.1)
 one_part form spec place past_end (Ok part) text other status again sealed is a b =
-    one_judgement form spec part.work past_end part.others text other status again sealed (part_threads spec place part is) a b
+    one_judgement form spec part.work past_end part.others text other status again sealed (part_threads (also_in form) spec place part is) a b
 
 one_audit : (form : Form) (input : List ℕ) (found : Result Reading Broken) (text other : List ℕ) (status again : Status) → spec_reading input ≡ found
     → AnswersAudit form input found text status → AnswersAudit form input found other again → AreOne text status other again
@@ -265,7 +281,7 @@ one_audit form input (Err broken) text other status again read a b = (a.0 ∙ sy
 one_audit form input (Ok reading) text other status again read (inl a) (inl b) =
     let is = reading_can_be_written input reading read in
     let sealed : IsSealed reading.spec = record { in_range = is.in_range; populated = is.populated; accepted = a.0 } in
-    one_part form reading.spec (place_after input reading) (past_end_of input) (part_reading Nothing reading.spec (place_after input reading)) text other status again
+    one_part form reading.spec (place_after input reading) (past_end_of input) (part_reading (also_in form) reading.spec (place_after input reading)) text other status again
     sealed refl a.1 b.1
 one_audit form input (Ok reading) text other status again read (inl a) (inr b) = absurd (refused_not_accepted reading.spec b.0 b.1 a.0)
 one_audit form input (Ok reading) text other status again read (inr a) (inl b) = absurd (refused_not_accepted reading.spec a.0 a.1 b.0)
@@ -273,11 +289,12 @@ one_audit form input (Ok reading) text other status again read (inr a) (inr b) =
     let same = one_first_broken reading.spec a.0 b.0 a.1 b.1 in
     (a.2.0 ∙ ap (λ (r : Refusal). printed_lines (refusal_text reading.spec r ∷ [])) same ∙ sym b.2.0, a.2.1 ∙ sym b.2.1)
 
--- `audit` may write one text for an input, with one status: one verdict, or one refusal. So may `audit bare`.
+-- `audit` may write one text for an input, with one status: one verdict, or one refusal. So may `audit group` and `audit bare`.
 abbrev pub AuditsAreOne : Type 0
 AuditsAreOne = (form : Form) (input text other : List ℕ) (status again : Status) → Answers (audit_for form) input text status
     → Answers (audit_for form) input other again → (text ≡ other) × (status ≡ again)
 
 pub audits_are_one : AuditsAreOne
 audits_are_one forms.Run input text other status again a b = one_audit forms.Run input (spec_reading input) text other status again refl a b
+audits_are_one forms.Group input text other status again a b = one_audit forms.Group input (spec_reading input) text other status again refl a b
 audits_are_one forms.Journal input text other status again a b = one_audit forms.Journal input (spec_reading input) text other status again refl a b

@@ -1,5 +1,5 @@
 -- The names that files of specs/ take from the crates below and from std, passed on from one place.
-pub use Rattle.rc_answer.specs.Answers.{Answers, AnswersAudit, AnswersPart, AnswersRun, AnswersWork, IsJudgement, IsReport, IsReportBy, audit_for, plans_and_report, verdict_status, verdict_text}
+pub use Rattle.rc_answer.specs.Answers.{Answers, AnswersAudit, AnswersPart, AnswersRun, AnswersWork, IsJudgement, IsReport, IsReportBy, also_in, audit_for, plans_and_report, verdict_status, verdict_text}
 pub use Rattle.rc_answer.specs.HeadlineLaws.{part_threads}
 pub use Rattle.rc_answer.specs.Plans.{ArePlanned, op_text, plans_text}
 pub use Rattle.rc_answer.specs.Ran.{IsReadAs, IsReadByHand, IsRunBy, IsRunOf, entries_in, run_text}
@@ -11,7 +11,7 @@ pub use Rattle.rc_audit.specs.PlanLinesLaws.{plan_lines_are_written}
 pub use Rattle.rc_audit.specs.VerdictLaws.{one_verdict}
 pub use Rattle.rc_audit.specs.declared.form.Form.{Form}
 pub use Rattle.rc_audit.specs.declared.verdict.Verdict.TheVariants.{Legal}
-pub use Rattle.rc_command.specs.declared.command.TextCommand.TheVariants.{Audit, AuditJournal, Run}
+pub use Rattle.rc_command.specs.declared.command.TextCommand.TheVariants.{Audit, AuditGroup, AuditJournal, Group, Run}
 pub use Rattle.rc_embed.specs.Opened.{IsAskedBy, IsRefusedWith, IsStoreOfTexts, OpenSeen, spec_asked}
 pub use Rattle.rc_embed.specs.OpenedLaws.{only_declared, opened_declared}
 pub use Rattle.rc_embed.specs.declared.fault.OpenFault.{OpenFault}

@@ -1,9 +1,8 @@
 -- The plans of all operations are read again where they are printed with `end` behind them, and are then the chosen ones.
 use Rattle.std.proofs.Common.{◌≡◌, ℕ, ◌<◌, ◌≤◌, true, false, cond, eqb, List, [], ◌∷◌, ◌++◌, length, map, Option, Some, Ok, refl, sym, ap, ◌∙◌, subst, inl, inr, arith, codes}
-use Rattle.rc_text_laws.specs.Imports.{AllByRecursion, flat_map, range_with_len, nat_cmp, in_range_below, in_range_bounds, rising_range, In, AreDistinct, in_map, ContentLine, IsPrintable, bytes_of_content, content_from, printed_lines, start_of, content-printed, IsInRange, IsWellNamed, op_at, Spec, plain_words_of, ArePlansOf, plan_at, KeepsPlanRules, Statement, AllKeepRules, AreChosen, IsChosenBy, plan_for, alone_by, are_end, closed_by, plans_of, says_end, AllHaveSets, AreHands, HaveSets, ops_of, OpsHaveSets, plans_alone, BeginsEnd, start_is_first, Hand}
+use Rattle.rc_text_laws.specs.Imports.{AllByRecursion, flat_map, range_with_len, in_range_below, in_range_bounds, rising_range, In, AreDistinct, in_map, ContentLine, IsPrintable, bytes_of_content, content_from, printed_lines, start_of, content-printed, IsInRange, IsWellNamed, op_at, Spec, plain_words_of, ArePlansOf, plan_at, KeepsPlanRules, Statement, AllKeepRules, AreChosen, IsChosenBy, plan_for, alone_by, are_end, closed_by, plans_of, says_end, AreHands, HaveSets, ops_of, OpsHaveSets, plans_alone, BeginsEnd, start_is_first, Hand}
 use Rattle.std.proofs.lemmas.Bool.{eqb-true, eq-eqb}
 use Rattle.std.proofs.lemmas.Grind.{flat_map-append}
-use Rattle.std.proofs.lemmas.Option.{same_Some}
 use Rattle.rc_handplan.specs.PlansText.{op_text}
 use Rattle.rc_handplan.specs.declared.starts.Closing.TheVariants as closings
 use Rattle.rc_text_laws.specs.NumberedLaws.{distinct_rising}

@@ -1,6 +1,7 @@
 //! What a reader may conclude from a printed report.
 
-ghost use Rattle.rc_text_laws.specs.AuditsLaws.{AuditsAreOne, JournalsAreLegal, RunLinesAreWritten, RunsAreLegal};
+ghost use Rattle.rc_text_laws.specs.AuditsLaws.{AuditsAreOne, GroupsAreLegal, JournalsAreLegal};
+ghost use Rattle.rc_text_laws.specs.AuditsLaws.{RunLinesAreWritten, RunsAreLegal};
 ghost use Rattle.rc_text_laws.specs.HistoriesLaws.{OneReportOneHistory};
 ghost use Rattle.rc_text_laws.specs.LegalLaws.{OneReportOneJournal};
 ghost use Rattle.rc_text_laws.specs.QuotableLaws.{TextsAreQuotable};
@@ -75,6 +76,11 @@ pub fn run_lines_are_written()
 /// that input. (`audit` reads both together where they have at most 2^24 bytes.)
 pub fn runs_are_legal()
     ensures { RunsAreLegal }
+{}
+
+/// Whatever `group` may write for such an input is legal behind it, as `audit group` judges it.
+pub fn groups_are_legal()
+    ensures { GroupsAreLegal }
 {}
 
 /// So is the journal in it, alone. What `run` may write for such an input is the lines of the plans,

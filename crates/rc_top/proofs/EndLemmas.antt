@@ -1,6 +1,6 @@
 -- The end of a command, of what was written.
 use Rattle.std.proofs.Common.{◌≡◌, ℕ, ◌+◌, ◌<◌, ◌≤◌, ◌^◌, ◌⊎◌, inl, inr, List, drop, Option, Some, None, Result, Ok, Err, length, ◌∙◌, refl, sym, subst, ap, arith}
-use Rattle.rc_top.proofs.Imports.{drop_of_length-le, drop-append_seam, Adds, AddsPrefix, Takes, IsEmpty, adds_prefix_none, takes_all, takes_at_most, takes_first, Broken, Reading, spec_of, spec_reading, Spec, IsAccepted, refused_not_accepted, Statement, AreChosen, HandReading, hands_reading, Also, Nothing, Groups, OpenWork, Work, open_reading, version_number, IsSome, op_number, WorkPart, part_reading, work_reading, past_end_of, Form, Verdict, Answers, AnswersAlone, AnswersAudit, AnswersByHand, AnswersHands, AnswersOpen, AnswersOpenWork, AnswersPart, AnswersRules, AnswersRun, AnswersWork, AnswersWorkBy, IsAcceptedText, IsPlanDrawingNamed, IsDrawing, IsPlanDrawingOrRefusal, IsPlansText, IsSizeRefusal, audit_for, verdict_status, work_in_lines, place_after, IsBigText, big_text, refused_plans_fail, ArePlanned, Writes, IsAnswer, IsAnswered, IsGoodByHand, IsGoodOpen, IsGoodPart, IsGoodReading, IsGoodReadingByHand, IsGoodReadingOpen, IsGoodReadingUpToEnd, IsGoodSpec, IsGoodSpecWith, IsGoodWork, KeepsRules, LeavesAllBut, Ends, EndsBig, status_of, OfText, TextCommand, Check, Plan, Run, Group, Audit, AuditJournal, Hand, Open, Dot, DotPlan, Status, Done, Bad, Usage, Refused, SourceFailed, SinkFailed, OutOfMemory, Stop, Memory, Sink}
+use Rattle.rc_top.proofs.Imports.{also_in, drop_of_length-le, drop-append_seam, Adds, AddsPrefix, Takes, IsEmpty, adds_prefix_none, takes_all, takes_at_most, takes_first, Broken, Reading, spec_of, spec_reading, Spec, IsAccepted, refused_not_accepted, Statement, AreChosen, HandReading, hands_reading, Also, Nothing, Groups, OpenWork, Work, open_reading, version_number, IsSome, op_number, WorkPart, part_reading, work_reading, past_end_of, Form, Verdict, Answers, AnswersAlone, AnswersAudit, AnswersByHand, AnswersHands, AnswersOpen, AnswersOpenWork, AnswersPart, AnswersRules, AnswersRun, AnswersWork, AnswersWorkBy, IsAcceptedText, IsPlanDrawingNamed, IsDrawing, IsPlanDrawingOrRefusal, IsPlansText, IsSizeRefusal, audit_for, verdict_status, work_in_lines, place_after, IsBigText, big_text, refused_plans_fail, ArePlanned, Writes, IsAnswer, IsAnswered, IsGoodByHand, IsGoodOpen, IsGoodPart, IsGoodReading, IsGoodReadingByHand, IsGoodReadingOpen, IsGoodReadingUpToEnd, IsGoodSpec, IsGoodSpecWith, IsGoodWork, KeepsRules, LeavesAllBut, Ends, EndsBig, status_of, OfText, TextCommand, Check, Plan, Run, Group, Audit, AuditGroup, AuditJournal, Hand, Open, Dot, DotPlan, Status, Done, Bad, Usage, Refused, SourceFailed, SinkFailed, OutOfMemory, Stop, Memory, Sink}
 use Rattle.rc_handplan.specs.HandGrammar as hand_lines
 use Rattle.rc_audit.specs.declared.form.Form.TheVariants as forms
 use Rattle.rc_audit.specs.declared.verdict.Verdict.TheVariants as verdicts
@@ -122,7 +122,7 @@ written_part form spec past_end (Ok part) text status is = subst IsWritten (sym 
 written_audit : (form : Form) (input : List ℕ) (reading : Result Reading Broken) (text : List ℕ) (status : Status) → AnswersAudit form input reading text status → IsWritten status
 written_audit form input (Err broken) text status is = subst IsWritten (sym is.1) tt
 written_audit form input (Ok reading) text status (inl (accepted, is)) =
-    written_part form reading.spec (past_end_of input) (part_reading Nothing reading.spec (place_after input reading)) text status is
+    written_part form reading.spec (past_end_of input) (part_reading (also_in form) reading.spec (place_after input reading)) text status is
 written_audit form input (Ok reading) text status (inr (refusal, first, is)) = subst IsWritten (sym is.1) tt
 
 -- the status of a command's text
@@ -132,6 +132,7 @@ EndsBy Plan status = IsDoneOrRefused status
 EndsBy Run status = IsDoneOrRefused status
 EndsBy Group status = IsDoneOrRefused status
 EndsBy Audit status = IsWritten status
+EndsBy AuditGroup status = IsWritten status
 EndsBy AuditJournal status = IsWritten status
 EndsBy Hand status = IsDoneOrRefused status
 EndsBy Open status = IsDoneOrRefused status
@@ -144,6 +145,7 @@ written Plan input text status is = written_alone IsPlansText (spec_of input) te
 written Run input text status is = written_run Nothing input (spec_reading input) text status is
 written Group input text status is = written_run Groups input (spec_reading input) text status is
 written Audit input text status is = written_audit forms.Run input (spec_reading input) text status is
+written AuditGroup input text status is = written_audit forms.Group input (spec_reading input) text status is
 written AuditJournal input text status is = written_audit forms.Journal input (spec_reading input) text status is
 written Hand input text status is = written_by_hand input (spec_reading input) text status is
 written Open input text status is = written_open input (spec_reading input) text status is
@@ -157,6 +159,7 @@ by_written Plan status h = done_or_refused status h
 by_written Run status h = done_or_refused status h
 by_written Group status h = done_or_refused status h
 by_written Audit status h = h
+by_written AuditGroup status h = h
 by_written AuditJournal status h = h
 by_written Hand status h = done_or_refused status h
 by_written Open status h = done_or_refused status h
@@ -174,6 +177,7 @@ by_bad Plan h = absurd (no_bad h)
 by_bad Run h = absurd (no_bad h)
 by_bad Group h = absurd (no_bad h)
 by_bad Audit h = (forms.Run, refl)
+by_bad AuditGroup h = (forms.Group, refl)
 by_bad AuditJournal h = (forms.Journal, refl)
 by_bad Hand h = absurd (no_bad h)
 by_bad Open h = absurd (no_bad h)
@@ -322,10 +326,10 @@ refused_part : (form : Form) (spec : Spec) (past_end : ℕ) (found : Result Work
 refused_part form spec past_end (Err broken) text good is = absurd good
 refused_part form spec past_end (Ok part) text good is = refused_verdict is.verdict is.written.1
 
-refused_audit : (form : Form) (input : List ℕ) (reading : Result Reading Broken) (text : List ℕ) → IsGoodReadingUpToEnd input reading → AnswersAudit form input reading text Refused → ⊥
+refused_audit : (form : Form) (input : List ℕ) (reading : Result Reading Broken) (text : List ℕ) → IsGoodReadingUpToEnd (also_in form) input reading → AnswersAudit form input reading text Refused → ⊥
 refused_audit form input (Err broken) text good is = absurd good
 refused_audit form input (Ok reading) text good is =
-    let found = part_reading Nothing reading.spec (place_after input reading) in
+    let found = part_reading (also_in form) reading.spec (place_after input reading) in
     refused_rules reading.spec (AnswersPart form reading.spec (past_end_of input) found) text good.0 (refused_part form reading.spec (past_end_of input) found text good.1) is
 
 refused_text : (command : TextCommand) (input text : List ℕ) → KeepsRules command input → Answers command input text Refused → ⊥
@@ -334,6 +338,7 @@ refused_text Plan input text good is = refused_alone IsPlansText (spec_of input)
 refused_text Run input text good is = refused_run Nothing input (spec_reading input) text good is
 refused_text Group input text good is = refused_run Groups input (spec_reading input) text good is
 refused_text Audit input text good is = refused_audit forms.Run input (spec_reading input) text good is
+refused_text AuditGroup input text good is = refused_audit forms.Group input (spec_reading input) text good is
 refused_text AuditJournal input text good is = refused_audit forms.Journal input (spec_reading input) text good is
 refused_text Hand input text good is = refused_by_hand input (spec_reading input) text good is
 refused_text Open input text good is = refused_open input (spec_reading input) text good is
@@ -346,6 +351,7 @@ done_is_answered Plan = refl
 done_is_answered Run = refl
 done_is_answered Group = refl
 done_is_answered Audit = inl refl
+done_is_answered AuditGroup = inl refl
 done_is_answered AuditJournal = inl refl
 done_is_answered Hand = refl
 done_is_answered Open = refl
@@ -354,6 +360,7 @@ done_is_answered (DotPlan op) = refl
 
 bad_is_answered : (form : Form) → IsAnswered (audit_for form) Bad
 bad_is_answered forms.Run = inr refl
+bad_is_answered forms.Group = inr refl
 bad_is_answered forms.Journal = inr refl
 
 -- a text that keeps all rules is answered, where nothing fails

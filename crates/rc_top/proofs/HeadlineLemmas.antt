@@ -17,6 +17,7 @@ whole A old new OutOfMemory written ends = absurd written
 -- a judge makes no calls of a workload
 no_calls : (form : Form) → MakesCalls (audit_for form) → ⊥
 no_calls forms.Run calls = calls
+no_calls forms.Group calls = calls
 no_calls forms.Journal calls = calls
 
 no_run : (o : Option Ran) → (IsSome o → ⊥) → o ≡ None

@@ -1,5 +1,5 @@
 -- The names that files of proofs/ take from the crates below, from std and from specs/, passed on from one place.
-pub use Rattle.rc_answer.specs.Answers.{Answers, AnswersAlone, AnswersAudit, AnswersByHand, AnswersHands, AnswersOpen, AnswersOpenWork, AnswersPart, AnswersRules, AnswersRun, AnswersWork, AnswersWorkBy, ArePlansFor, IsAcceptedText, IsDrawing, IsPlanDrawingNamed, IsPlanDrawingOrRefusal, IsPlansText, IsSizeRefusal, MakesCalls, also_of, audit_for, verdict_status, work_in_lines}
+pub use Rattle.rc_answer.specs.Answers.{Answers, AnswersAlone, AnswersAudit, AnswersByHand, AnswersHands, AnswersOpen, AnswersOpenWork, AnswersPart, AnswersRules, AnswersRun, AnswersWork, AnswersWorkBy, ArePlansFor, IsAcceptedText, IsDrawing, IsPlanDrawingNamed, IsPlanDrawingOrRefusal, IsPlansText, IsSizeRefusal, MakesCalls, also_in, also_of, audit_for, verdict_status, work_in_lines}
 pub use Rattle.rc_answer.specs.Big.{HasSummaryText, IsBigText, big_text}
 pub use Rattle.rc_answer.specs.Headline.{AuditHeadline, CheckHeadline, HandHeadline, Headline, OpenHeadline}
 pub use Rattle.rc_answer.specs.HeadlineLaws.{audit_headline, check_headline, hand_headline, headline, open_headline, refused_plans_fail}
@@ -19,7 +19,7 @@ pub use Rattle.rc_command.specs.Command.{command_of}
 pub use Rattle.rc_command.specs.declared.command.Command.{Command}
 pub use Rattle.rc_command.specs.declared.command.Command.TheVariants.{Big, OfText}
 pub use Rattle.rc_command.specs.declared.command.TextCommand.{TextCommand}
-pub use Rattle.rc_command.specs.declared.command.TextCommand.TheVariants.{Audit, AuditJournal, Check, Dot, DotPlan, Group, Hand, Open, Plan, Run}
+pub use Rattle.rc_command.specs.declared.command.TextCommand.TheVariants.{Audit, AuditGroup, AuditJournal, Check, Dot, DotPlan, Group, Hand, Open, Plan, Run}
 pub use Rattle.rc_handplan.specs.Chosen.{AreChosen}
 pub use Rattle.rc_handplan.specs.HandGrammar.{HandReading, hands_reading}
 pub use Rattle.rc_io.specs.Bytes.{Adds, AddsPrefix, IsEmpty, Takes}

@@ -19,7 +19,7 @@ use Rattle.rc_work.specs.Ranking.{work_reading}
 use Rattle.rc_answer.specs.Answers.{Answers, IsSizeRefusal, work_in_lines}
 use Rattle.rc_work.specs.WholeText.{place_after}
 use Rattle.rc_command.specs.declared.command.TextCommand.{TextCommand}
-use Rattle.rc_command.specs.declared.command.TextCommand.TheVariants.{Check, Plan, Run, Group, Audit, AuditJournal, Hand, Open, Dot, DotPlan}
+use Rattle.rc_command.specs.declared.command.TextCommand.TheVariants.{Check, Plan, Run, Group, Audit, AuditGroup, AuditJournal, Hand, Open, Dot, DotPlan}
 use Rattle.rc_answer.specs.declared.status.Status.{Status}
 use Rattle.rc_answer.specs.declared.status.Status.TheVariants.{Done, Bad}
 
@@ -50,9 +50,9 @@ abbrev pub IsGoodPart : Result WorkPart Broken → Type 0
 IsGoodPart (Err broken) = ⊥
 IsGoodPart (Ok part) = Unit {0}
 
-abbrev pub IsGoodReadingUpToEnd : List ℕ → Result Reading Broken → Type 0
-IsGoodReadingUpToEnd input (Err broken) = ⊥
-IsGoodReadingUpToEnd input (Ok reading) = IsAccepted reading.spec × IsGoodPart (part_reading Nothing reading.spec (place_after input reading))
+abbrev pub IsGoodReadingUpToEnd : Also → List ℕ → Result Reading Broken → Type 0
+IsGoodReadingUpToEnd also input (Err broken) = ⊥
+IsGoodReadingUpToEnd also input (Ok reading) = IsAccepted reading.spec × IsGoodPart (part_reading also reading.spec (place_after input reading))
 
 -- plans that keep K1 to K7 were read, and a workload behind them
 abbrev pub IsGoodByHand : ℕ → Spec → Result HandReading hand_lines.Broken → Type 0
@@ -79,8 +79,9 @@ KeepsRules Check input = IsGoodSpec (spec_of input)
 KeepsRules Plan input = IsGoodSpec (spec_of input)
 KeepsRules Run input = IsGoodReading Nothing input (spec_reading input)
 KeepsRules Group input = IsGoodReading Groups input (spec_reading input)
-KeepsRules Audit input = IsGoodReadingUpToEnd input (spec_reading input)
-KeepsRules AuditJournal input = IsGoodReadingUpToEnd input (spec_reading input)
+KeepsRules Audit input = IsGoodReadingUpToEnd Nothing input (spec_reading input)
+KeepsRules AuditGroup input = IsGoodReadingUpToEnd Groups input (spec_reading input)
+KeepsRules AuditJournal input = IsGoodReadingUpToEnd Nothing input (spec_reading input)
 KeepsRules Hand input = IsGoodReadingByHand input (spec_reading input)
 KeepsRules Open input = IsGoodReadingOpen input (spec_reading input)
 KeepsRules Dot input = IsGoodSpec (spec_of input)
@@ -93,6 +94,7 @@ IsAnswered Plan status = status ≡ Done
 IsAnswered Run status = status ≡ Done
 IsAnswered Group status = status ≡ Done
 IsAnswered Audit status = (status ≡ Done) ⊎ (status ≡ Bad)
+IsAnswered AuditGroup status = (status ≡ Done) ⊎ (status ≡ Bad)
 IsAnswered AuditJournal status = (status ≡ Done) ⊎ (status ≡ Bad)
 IsAnswered Hand status = status ≡ Done
 IsAnswered Open status = status ≡ Done

@@ -1,5 +1,5 @@
 use Rattle.std.proofs.Common.{◌≡◌, Err, Ok, refl, sym, subst}
-use Rattle.rc_answer.proofs.Imports.{IsRead, rest_place, spec_reading, Spec, IsAccepted, content_from, past_end_of, ReadsPart, Nothing, part_reading, AnswersAudit, IsJudgement}
+use Rattle.rc_answer.proofs.Imports.{IsRead, rest_place, spec_reading, Spec, IsAccepted, content_from, past_end_of, ReadsPart, Also, part_reading, AnswersAudit, IsJudgement}
 use Rattle.rc_answer.proofs.AnswerLemmas.{judgement_answers, part_refusal_answers, writes_wider}
 use Rattle.rc_answer.proofs.auditing.answer_audit.Goals as goal
 
@@ -13,7 +13,7 @@ returns-clause-written g c =
     let accepted : IsAccepted spec = subst (λ (s : Spec). IsAccepted s) (sym same) (c.in-Ok-accept.ensures.accepted refl) in
     let work = c.in-Ok-read_work_part.read.0 in
     let behind = c.in-Ok-read_work_part.read.1 in
-    let read = subst (λ (s : Spec). ReadsPart text c.in-Ok.read.1.version (Ok (work, behind)) (part_reading Nothing s (rest_place text c.in-Ok.read.1))) c.spec.ensures.value c.in-Ok-read_work_part.ensures.exact in
+    let read = subst (λ (x : Spec × Also). ReadsPart text c.in-Ok.read.1.version (Ok (work, behind)) (part_reading x.1 x.0 (rest_place text c.in-Ok.read.1))) (λ i. (c.spec.ensures.value i, c.also_in.ensures i)) c.in-Ok-read_work_part.ensures.exact in
     writes_wider (IsJudgement c.args.form spec work (past_end_of text) (content_from (rest_place text behind))) (AnswersAudit c.args.form text (spec_reading text)) (g.K.Sink.held c.args.sink.now) (g.K.Sink.held c.write_judgement.new.sink) c.write_judgement.result
     (judgement_answers c.args.form text found.0 spec c.in-Ok.read.1 found.1 is accepted read.0 read.1 work behind read.2 read.3) c.write_judgement.ensures.written
 
@@ -27,5 +27,5 @@ returns-in-Err-read_work_part-clause-written g c =
     let accepted : IsAccepted spec = subst (λ (s : Spec). IsAccepted s) (sym same) (c.in-Ok-accept.ensures.accepted refl) in
     part_refusal_answers c.args.form text found.0 spec c.in-Ok.read.1 found.1 is accepted c.in-Err-read_work_part.refusal
     (g.K.Sink.held c.args.sink.now) (g.K.Sink.held c.refuse-in-Err-read_work_part.new.sink) c.refuse-in-Err-read_work_part.result
-    (subst (λ (s : Spec). ReadsPart text c.in-Ok.read.1.version (Err c.in-Err-read_work_part.refusal) (part_reading Nothing s (rest_place text c.in-Ok.read.1))) c.spec.ensures.value c.in-Err-read_work_part.ensures.exact)
+    (subst (λ (x : Spec × Also). ReadsPart text c.in-Ok.read.1.version (Err c.in-Err-read_work_part.refusal) (part_reading x.1 x.0 (rest_place text c.in-Ok.read.1))) (λ i. (c.spec.ensures.value i, c.also_in.ensures i)) c.in-Err-read_work_part.ensures.exact)
     c.refuse-in-Err-read_work_part.ensures.written

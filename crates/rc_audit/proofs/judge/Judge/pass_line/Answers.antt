@@ -41,8 +41,8 @@ returns-in_err-judge_line-in-Entries-clause-judged c = λ front passed.
     (HasPassed (record c.args.self.now { relation = c.judge_line.new.relation; stage = stages.Entries c.judge_line.new.self }) (front ++ c.args.line.now ∷ [])) _
     (c.in_err-judge_line-in-Entries.ensures form front (among_at c.args.self.now c.in-Entries.entries front c.in-Entries.is passed)))
 
-pub has_some_left-requires : goal.has_some_left-requires
-has_some_left-requires c =
+pub has_more-requires : goal.has_more-requires
+has_more-requires c =
     (c.in_ok-judge_line-in-Entries.ensures c.args.self.now.form c.requires.0
     (among_at c.args.self.now c.in-Entries.entries c.requires.0 c.in-Entries.is c.requires.1)).within
 
@@ -53,12 +53,12 @@ overflow_add-next c =
     let few = c.requires.1.judgeable.limits.few_rounds in
     omega (arith, within, few)
 
-pub stage_from-requires-then-not-has_some_left-clause-before : goal.stage_from-requires-then-not-has_some_left-clause-before
-stage_from-requires-then-not-has_some_left-clause-before c = (
+pub stage_from-requires-then-not-has_more-clause-before : goal.stage_from-requires-then-not-has_more-clause-before
+stage_from-requires-then-not-has_more-clause-before c = (
   c.requires.0 ++ c.args.line.now ∷ [],
   among_before c.args.self.now.form c.args.self.now.compiled.now c.args.self.now.work.now c.requires.1.judgeable c.judge_line.new.relation c.judge_line.new.self (c.requires.0 ++ c.args.line.now ∷ [])
       (c.in_ok-judge_line-in-Entries.ensures c.args.self.now.form c.requires.0 (among_at c.args.self.now c.in-Entries.entries c.requires.0 c.in-Entries.is c.requires.1))
-      (c.has_some_left.ensures.no c.if-not-has_some_left.true),
+      (c.has_more.ensures.no c.if-not-has_more.true),
 )
 
 pub returns-in_ok-self-in-Entries-clause-judged : goal.returns-in_ok-self-in-Entries-clause-judged
@@ -68,5 +68,5 @@ returns-in_ok-self-in-Entries-clause-judged c = λ front passed. record {
       c.in_ok-self-in-Entries.ensures (front ++ c.args.line.now ∷ [])
       (among_before c.args.self.now.form c.args.self.now.compiled.now c.args.self.now.work.now passed.judgeable c.judge_line.new.relation c.judge_line.new.self (front ++ c.args.line.now ∷ [])
       (c.in_ok-judge_line-in-Entries.ensures c.args.self.now.form front (among_at c.args.self.now c.in-Entries.entries front c.in-Entries.is passed))
-      (c.has_some_left.ensures.no c.if-not-has_some_left.true));
+      (c.has_more.ensures.no c.if-not-has_more.true));
 }

@@ -1,4 +1,4 @@
-use Rattle.std.proofs.Common.{◌<◌, ◌≤◌, [], get_or, length, refl, ap, subst, ◌∙◌, arith}
+use Rattle.std.proofs.Common.{◌<◌, ◌≤◌, [], get_or, inr, length, refl, ap, subst, ◌∙◌, arith}
 use Rattle.rc_audit.proofs.Imports.{get_or_default, each_in, get_or_in, replay, HasTurnsBelow, HaveBegun, IsFirstFilled, round_at}
 use Rattle.rc_audit.proofs.StageLemmas.{among_first, closing_first, some_first}
 use Rattle.rc_audit.proofs.judge.Judge.stage_from.Goals as goal
@@ -30,6 +30,6 @@ returns-then-round-rounds c = λ front before.
     ∙ get_or_default work.rounds next c.index-rounds-round.result [] within in
     let begun = subst (λ ts. HaveBegun ts work.threads c.in_ok-first_cursors.field-0.items) here c.in_ok-first_cursors.ensures in
     let below = each_in (HasTurnsBelow work.threads) work.rounds c.requires.judgeable.threads (round_at work next) (get_or_in work.rounds next [] within) in (
-      among_first form compiled work c.requires.judgeable c.args.self.now.relation c.args.number c.args.place front before next first _ refl refl within begun,
-      some_first work (round_at work next) work.threads c.in_ok-first_cursors.field-0.items begun below (first.filled within),
+      among_first form compiled work c.requires.judgeable c.args.self.now.relation c.args.number c.args.place front before next first _ refl refl c.new.ensures within begun,
+      inr (some_first work (round_at work next) work.threads c.in_ok-first_cursors.field-0.items begun below (first.filled within)),
     )
