@@ -3,6 +3,7 @@ pub use Rattle.rc_c.specs.Answered.{AnswersSameFrame, AnswersSameOperation, Answ
 pub use Rattle.rc_c.specs.Closing.{AnswersClosed, AnswersResumed, left_behind}
 pub use Rattle.rc_c.specs.GivenBack.{AnswersGivenBack}
 pub use Rattle.rc_c.specs.HandedOut.{HasOpenedThis, hands_out}
+pub use Rattle.rc_c.specs.Telling.{AnswersTold, IsTold}
 pub use Rattle.rc_embed.specs.Closing.{HasAllPasses, pass_count}
 pub use Rattle.rc_embed.specs.Frames.{AnswersBegin, AnswersBeginGroup, AnswersCall, AnswersCommit, AnswersGroup, AnswersLearn}
 pub use Rattle.rc_embed.specs.OpenFrames.{IsOpenedBy, IsOpenedWithBy, IsRefusedBy, IsRefusedWithBy, KeepsAsked}

@@ -7,7 +7,7 @@ pub use Rattle.rc_embed.specs.DeclaringLaws.{declared_calls_are_covered}
 pub use Rattle.rc_embed.specs.EntriesLaws.{told_last}
 pub use Rattle.rc_embed.specs.Frames.{with_picked_reply, with_replies, with_reply}
 pub use Rattle.rc_embed.specs.Holding.{held}
-pub use Rattle.rc_embed.specs.OpenFrames.{BreaksRule, HasRefusal, IsOpenedBy, IsOpenedWithBy, IsRefusedBy, IsRefusedWithBy, options_asked}
+pub use Rattle.rc_embed.specs.OpenFrames.{BreaksRule, HasRefusal, IsOpenedBy, IsOpenedWithBy, IsRefusedBy, IsRefusedWithBy, TellsFault, options_asked}
 pub use Rattle.rc_embed.specs.OpenGroupLaws.{no_declared_call_is_uncovered, open_groups_keep_their_locks}
 pub use Rattle.rc_embed.specs.OpenGroups.{HasCalledOpen, HasDeclaredCause, HasNoRefusalIn, HasOpenCause, IsLeftBy, IsUncoveredIn, call_in, open_fault_in, open_fault_of}
 pub use Rattle.rc_embed.specs.Opened.{AreInBounds, ArePlannedOf, AreShort, IsAskedBy, IsBuiltOf, IsCompiledWith, IsMadeOf, IsOfTexts, IsOpened, IsOpenedWith, IsPlannedWith, IsRefusedFor, IsRefusedPlan, IsRefusedWith, IsStoreOfTexts, IsUnplannedFor, OpenSeen}

@@ -1,6 +1,6 @@
 -- What opening a store with written plans answers.
-use Rattle.std.proofs.Common.{◌≡◌, ℕ, ◌<◌, List, [], ◌∷◌, length, take, Result, Ok, Err, IfOk, IfErr, inl, refl, sym, ap, ◌∙◌, subst, arith}
-use Rattle.rc_embed.proofs.Imports.{In, append_in_right, Op, Spec, IsAccepted, IsWellNamed, embedded, embedded_schema, IsCompiled, SpecWithPlans, PlanRefusal, Hand, AllKeepRules, AreChosen, IsFirstRefused, plans_of, AreHands, OpenFault, Line, Options, Plan, PlanLine, Rule, ShapeLine, TooLong, text_version, compiled_of, HasKnownColumns, with_operations, shapes_of, OpenFrame, BreaksRule, HasRefusal, IsOpenedBy, IsOpenedWithBy, IsRefusedBy, IsRefusedWithBy, options_asked, opened_plans, refused_without_plans, AreInBounds, ArePlannedOf, AreShort, IsAskedBy, IsBuiltOf, IsCompiledWith, IsMadeOf, IsOfTexts, IsOpened, IsOpenedWith, IsStoreOfTexts, IsPlannedWith, IsRefusedFor, IsRefusedPlan, IsRefusedWith, IsUnplannedFor, OpenSeen}
+use Rattle.std.proofs.Common.{◌≡◌, ℕ, ◌<◌, List, [], ◌∷◌, length, take, Result, Ok, Err, IfOk, IfErr, inl, inr, refl, sym, ap, ◌∙◌, subst, arith}
+use Rattle.rc_embed.proofs.Imports.{In, append_in_right, Op, Spec, IsAccepted, IsWellNamed, embedded, embedded_schema, IsCompiled, SpecWithPlans, PlanRefusal, Hand, AllKeepRules, AreChosen, IsFirstRefused, plans_of, AreHands, OpenFault, Line, Options, Plan, PlanLine, Rule, ShapeLine, TooLong, text_version, compiled_of, HasKnownColumns, with_operations, shapes_of, OpenFrame, BreaksRule, HasRefusal, IsOpenedBy, IsOpenedWithBy, IsRefusedBy, IsRefusedWithBy, TellsFault, options_asked, opened_plans, refused_without_plans, AreInBounds, ArePlannedOf, AreShort, IsAskedBy, IsBuiltOf, IsCompiledWith, IsMadeOf, IsOfTexts, IsOpened, IsOpenedWith, IsStoreOfTexts, IsPlannedWith, IsRefusedFor, IsRefusedPlan, IsRefusedWith, IsUnplannedFor, OpenSeen}
 use Rattle.rc_embed.specs.declared.fault.OpenFault.TheVariants.{Memory}
 use Rattle.rc_embed.specs.declared.opening.Options as asked
 
@@ -170,6 +170,24 @@ pub tells_none : (frame : OpenFrame) → frame.length ≡ 0 → HasRefusal [] fr
 tells_none frame none = record {
   told = λ short. (none, ap (λ (n : ℕ). take n frame.refusal) none);
   long = λ above. absurd (omega (arith, above));
+}
+
+-- why no store is opened, as the frame tells it
+pub refused_with_by : (text shapes plans : List ℕ) (before after : OpenFrame) (options : asked.Options) → options ≡ options_asked before
+    → (fault : OpenFault) → IsRefusedWith text shapes plans options fault → (code : ℕ) → TellsFault fault after code
+    → IsRefusedWithBy text shapes plans before after code
+refused_with_by text shapes plans before after options is fault cause code (inl (code_is, told)) = record {
+  fault = fault;
+  cause = subst (λ (o : asked.Options). IsRefusedWith text shapes plans o fault) is cause;
+  code_is = code_is;
+  told = told;
+}
+refused_with_by text shapes plans before after options is fault cause code (inr (code_is, breaks, none)) = record {
+  fault = Memory;
+  cause = subst (λ (o : asked.Options). IsRefusedWith text shapes plans o Memory) is
+      (memory_too text shapes plans options fault breaks cause);
+  code_is = code_is;
+  told = tells_none after none;
 }
 
 -- what comes of a text without shapes, and without plans

@@ -3,6 +3,7 @@ use Rattle.std.proofs.Common.{◌≡◌, ℕ, ◌≤◌, List, [], ◌∷◌, le
 use Rattle.rc_embed.proofs.Imports.{slice_get, Reply, PartEntries, Step, with_replies-parts, with_step, Keeping, Counts, IsMoreRoom, PassSeen, compiled_of, GroupReceipt, Receipt, HasBegun, HasBegunGroup, RunningGroupSeen, RunningSeen, calls_of, AreRepliesFor, HasMade, HasMadeEntry, HasMadeGroup, HoldsExactly, IsAsBefore, IsReplyFor, StoreSeen, receipt_at, Group, Position, State, Idle, PreparedGroup, Open, Moving, AskedCall, told_last, HasCalledOpen, call_in, HasCommitted, IsStateAsBefore, IsStateOf, IsUnchanged, SessionSeen, alone, receipt_of, replies_given, replies_in, reply_of, uncommitted_in}
 use Rattle.rc_spec.specs.declared.call.Call.{Call as ACall}
 use Rattle.rc_store.specs.Running.{replies_of as replies_with}
+use Rattle.rc_embed.specs.declared.session.Last.{Last}
 use Rattle.rc_embed.specs.declared.session.Last.TheVariants.{Call}
 use Rattle.rc_embed.specs.declared.session.State.TheVariants.{Prepared}
 
@@ -75,6 +76,13 @@ told_group store calls replies old new receipt counts made =
       exact = made.exact;
       given = subst (λ (k : Keeping). AreRepliesFor k replies (Some replies)) (sym counts) refl;
     })
+
+-- so it is where the last receipt is put where it stands
+pub told_in : (store : StoreSeen) (calls : List ACall) (old new : PassSeen) (at : Position) (last given : Last) → last ≡ given
+    → HasMadeGroup store calls (replies_given given) old new (receipt_of at (replies_given given))
+    → HasMadeGroup store calls (replies_given last) old new (receipt_of at (replies_given last))
+told_in store calls old new at last given is =
+    subst (λ (l : Last). HasMadeGroup store calls (replies_given l) old new (receipt_of at (replies_given l))) (sym is)
 
 -- a call that was begun is a group of one that was
 pub begun_alone : (store : StoreSeen) (call : ACall) (pass : PassSeen) (running : RunningSeen) → HasBegun store call pass running

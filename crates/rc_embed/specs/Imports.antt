@@ -37,14 +37,14 @@ pub use Rattle.rc_reader.specs.declared.refusal.LineRule.{LineRule}
 pub use Rattle.rc_reader.specs.declared.version.Version.TheVariants.{Two}
 pub use Rattle.rc_rel.specs.Further.{Extends}
 pub use Rattle.rc_rel.specs.History.{AllFit, AreLegalFrom, IsLegal, IsPrefix, StepsFit, after_steps, own_placed, placed, relation_at, replay, steps_of, with_replies}
-pub use Rattle.rc_rel.specs.HistoryLaws.{after_steps-append, replay_in_states, states_satisfy, with_replies-parts}
+pub use Rattle.rc_rel.specs.HistoryLaws.{after_steps-append, states_satisfy, with_replies-parts}
 pub use Rattle.rc_rel.specs.OwnLaws.{StandsIn, own_stands, same_places, stands_in_other}
 pub use Rattle.rc_rel.specs.PlaceLaws.{legal_last}
 pub use Rattle.rc_rel.specs.declared.entry.Entry.{Entry}
 pub use Rattle.rc_rel.specs.declared.entry.Placed.{Placed}
 pub use Rattle.rc_rel.specs.declared.entry.Step.{Step}
 pub use Rattle.rc_row.specs.Law.{AreKnown, history_by}
-pub use Rattle.rc_row.specs.Passes.{HasLookedAt, PassSeen, RowSeen, compiled_of, core_of, new_pass, new_passes, spec_of}
+pub use Rattle.rc_row.specs.Passes.{HasLookedAt, PassSeen, RowSeen, compiled_of, core_of, new_pass, new_passes, note_of, spec_of, with_note}
 pub use Rattle.rc_row.specs.declared.keeping.Keeping.TheVariants.{Counts}
 pub use Rattle.rc_spec.specs.Acceptance.{IsAccepted, IsFirstBroken, IsItemOf}
 pub use Rattle.rc_spec.specs.Calls.{Fits, value_columns}

@@ -1,5 +1,5 @@
 -- Frames by which stores are opened and operations looked up.
-use Rattle.std.specs.Prelude.{◌≡◌, ℕ, ◌<◌, ◌≤◌, ◌==◌, List, [], ◌++◌, get_or, length, take, Option, Some, None, if◌then◌else◌}
+use Rattle.std.specs.Prelude.{◌≡◌, ◌⊎◌, ℕ, ◌<◌, ◌≤◌, ◌==◌, List, [], ◌++◌, get_or, length, take, Option, Some, None, if◌then◌else◌}
 use Rattle.std.specs.Prelude as text
 use Rattle.rc_embed.specs.Imports.{Seed, seed_of, OpKind, Spec, IsItemOf, op_names, op_at, refusal_text, LineRule, number_among, line_rule_text, HandRule, hand_rule_text, plan_refusal_text, written_columns_at}
 use Rattle.rc_spec.specs.declared.items.OpKind.TheVariants as kinds
@@ -98,6 +98,12 @@ pub record HasRefusal (text : List ℕ) (frame : OpenFrame) : Type 0 where
   pub told : length text ≤ 64
       → (frame.length ≡ length text) × (take frame.length frame.refusal ≡ text)
   pub long : 64 < length text → frame.length ≡ 0
+
+-- the code and the frame tell the fault; or memory was wanted for the refusal of a text, and none is told
+abbrev pub TellsFault : OpenFault → OpenFrame → ℕ → Type 0
+TellsFault fault frame code =
+    ((code ≡ open_code fault) × HasRefusal (fault_text fault) frame)
+    ⊎ ((code ≡ codes.memory) × BreaksRule fault × (frame.length ≡ 0))
 
 -- what the frame asks stays
 pub record KeepsAsked (before after : OpenFrame) : Type 0 where

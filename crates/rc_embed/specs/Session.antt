@@ -1,8 +1,7 @@
 -- What contracts see of a session, and what its calls make of it. (PLDI 2012, serializable
 -- transactions over striped locks.)
 use Rattle.std.specs.Prelude.{◌≡◌, ℕ, ◌<◌, ◌≤◌, List, [], ◌∷◌, Option, Some, None}
-use Rattle.rc_embed.specs.Imports.{slice_get, Call, Reply, Step, PassState, HasLookedAt, PassSeen, compiled_of, core_of, spec_of, HoldsDeclared, IsOpenOn, OpenGroupSeen, HasBegunGroup, IsGroupRunningOn, IsRunningOn, RunningGroupSeen, RunningSeen, AreRepliesFor, HasMadeEntry, HasMadeGroup, HoldsExactly, IsAsBefore, IsFree, StoreSeen, one_step, GroupReceipt, Position}
-use Rattle.rc_row.specs.Passes.{note_of, with_note}
+use Rattle.rc_embed.specs.Imports.{slice_get, Call, Reply, Step, PassState, HasLookedAt, PassSeen, compiled_of, core_of, spec_of, HoldsDeclared, IsOpenOn, OpenGroupSeen, HasBegunGroup, IsGroupRunningOn, IsRunningOn, RunningGroupSeen, RunningSeen, AreRepliesFor, HasMadeEntry, HasMadeGroup, HoldsExactly, IsAsBefore, IsFree, StoreSeen, one_step, GroupReceipt, Position, note_of, with_note}
 use Rattle.rc_store.specs.Running.{replies_of as replies_with}
 use Rattle.rc_embed.specs.declared.session.Last.{Last}
 use Rattle.rc_embed.specs.declared.session.Last.TheVariants as lasts

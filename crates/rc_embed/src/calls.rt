@@ -5,8 +5,8 @@ ghost use Rattle.rc_embed.specs.Asked.{one_call};
 ghost use Rattle.rc_embed.specs.Refused.{Answers, fault_of};
 ghost use Rattle.rc_embed.specs.Session.{HasCalled};
 
-use crate::fault::CallFault;
-use crate::session::{Last, Session, State};
+use crate::fault::{CallFault, call_fault};
+use crate::session::{Last, Session, State, put};
 use rc_spec::Reply;
 use rc_store::Position;
 
@@ -52,9 +52,13 @@ impl Session {
             return Ok(at);
         }
         let mut reply = Reply::Absent;
-        let at = store.try_call_into(pass, &self.call, &mut reply)?;
-        self.last = Last::Call(Some(reply));
-        self.picked = 0;
-        Ok(at)
+        match store.try_call_into(pass, &self.call, &mut reply) {
+            Ok(at) => {
+                put(&mut self.last, Last::Call(Some(reply)));
+                self.picked = 0;
+                Ok(at)
+            }
+            Err(fault) => Err(call_fault(fault)),
+        }
     }
 }

@@ -6,7 +6,7 @@ ghost use Rattle.rc_embed.specs.Refused.{Answers, fault_of};
 ghost use Rattle.rc_embed.specs.Session.{HasCalled, HasPrepared};
 
 use crate::fault::{CallFault, call_fault};
-use crate::session::{Last, Session, State};
+use crate::session::{Last, Session, State, put};
 use rc_store::{BeginBack, GroupReceipt, Position};
 use std::mem;
 
@@ -112,7 +112,7 @@ impl Session {
                     replies,
                 },
             ) => {
-                self.last = Last::Group(replies);
+                put(&mut self.last, Last::Group(replies));
                 self.picked = 0;
                 Ok(Position { place, nth })
             }
@@ -144,8 +144,9 @@ impl Session {
             Answers (λ _. HasPrepared self.old calls self.new) self.old calls self.new result }
     {
         self.shared.refill_all(&mut self.calls, calls)?;
-        let State::Idle(pass) = mem::replace(&mut self.state, State::Moving) else {
-            unreachable!()
+        let pass = match mem::replace(&mut self.state, State::Moving) {
+            State::Idle(pass) => pass,
+            _ => unreachable!(),
         };
         match self
             .shared
@@ -153,12 +154,12 @@ impl Session {
             .begin_group(pass, &self.calls[..calls.len()])
         {
             Ok(running) => {
-                self.state.come_to(State::PreparedGroup(running));
+                put(&mut self.state, State::PreparedGroup(running));
                 self.picked = 0;
                 Ok(())
             }
             Err(BeginBack { pass, fault }) => {
-                self.state.come_to(State::Idle(pass));
+                put(&mut self.state, State::Idle(pass));
                 Err(call_fault(fault))
             }
         }

@@ -4,6 +4,7 @@ ghost use Rattle.std.specs.Prelude.{◌≡◌, IfErr, IfOk};
 ghost use Rattle.std.specs.Arc.{arc_value};
 ghost use Rattle.rc_embed.specs.Holding.{IsHeld, held};
 
+use crate::session::put;
 use crate::shared::Shared;
 use rc_tuple::Memory;
 use std::alloc::{AllocFailed, Global};
@@ -23,13 +24,6 @@ pub(crate) enum Hold {
 }
 
 impl Hold {
-    /// Comes to the next one. (What lets a hold go stands here alone: each place of it would be proved anew.)
-    fn come_to(&mut self, next: Hold)
-        ensures { self.new ≡ next }
-    {
-        *self = next;
-    }
-
     /// What is held.
     pub(crate) fn shared(&self) -> &Shared
         requires { IsHeld self.now }
@@ -67,14 +61,14 @@ impl Hold {
         match mem::replace(self, Hold::Moving).into_together(alloc) {
             Ok(shared) => {
                 let again = Arc::try_clone(&shared);
-                self.come_to(Hold::Together(shared));
+                put(self, Hold::Together(shared));
                 match again {
                     Ok(shared) => Ok(shared),
                     Err(_) => Err(Memory),
                 }
             }
             Err(shared) => {
-                self.come_to(Hold::Alone(shared));
+                put(self, Hold::Alone(shared));
                 Err(Memory)
             }
         }

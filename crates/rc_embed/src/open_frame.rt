@@ -2,8 +2,8 @@
 
 ghost use Rattle.std.specs.Prelude.{◌≡◌, ◌<◌, [], length, IfErr, IfOk};
 ghost use Rattle.rc_row.specs.Passes.{spec_of};
-ghost use Rattle.rc_embed.specs.OpenFrames.{AnswersOperation, BreaksRule, HasItem, HasRefusal};
-ghost use Rattle.rc_embed.specs.OpenFrames.{TellsOperation};
+ghost use Rattle.rc_embed.specs.OpenFrames.{AnswersOperation, BreaksRule, HasItem};
+ghost use Rattle.rc_embed.specs.OpenFrames.{TellsFault, TellsOperation};
 ghost use Rattle.rc_embed.specs.OpenFrames.{IsOpenedBy, IsOpenedWithBy, IsRefusedBy, IsRefusedWithBy};
 ghost use Rattle.rc_embed.specs.OpenFrames.{KeepsAsked, KeepsName, fault_text, line_text};
 ghost use Rattle.rc_embed.specs.OpenFrames.{plan_line_text};
@@ -124,20 +124,23 @@ impl OpenFrame {
         }
     }
 
-    /// Tells why no store was opened, and answers the code. Memory is wanted for a refusal alone.
-    pub(crate) fn tell_fault(&mut self, alloc: Global, fault: &OpenFault) -> Result<u32, Memory>
-        requires { HasItem fault.now }
-        ensures code { IfOk result (λ code. code ≡ open_code fault.now) }
-        ensures told { IfOk result (λ _. HasRefusal (fault_text fault.now) self.new) }
-        ensures memory { IfErr result (λ _. BreaksRule fault.now × (self.new.length ≡ 0)) }
+    /// Tells why no store was opened, and answers the code. Where memory is wanted for the refusal, that is the code.
+    pub(crate) fn tell_fault(&mut self, alloc: Global, fault: OpenFault) -> u32
+        requires { HasItem fault }
+        ensures told { TellsFault fault self.new result }
         ensures asked { KeepsAsked self.old self.new }
     {
+        let code = open_code(&fault);
+        let text = fault_text(alloc, &fault);
+        drop(fault);
         self.length = 0;
-        let text = fault_text(alloc, fault)?;
+        let Ok(text) = text else {
+            return MEMORY;
+        };
         if let Some(length) = copy_over(&text, &mut self.refusal) {
             self.length = length as u32;
         }
-        Ok(open_code(fault))
+        code
     }
 }
 
@@ -192,10 +195,7 @@ pub fn open_with_by(
     frame.length = 0;
     match open_with(alloc, text, shapes, plans, frame.options()) {
         Ok(store) => Ok(store),
-        Err(fault) => match frame.tell_fault(alloc, &fault) {
-            Ok(code) => Err(code),
-            Err(_) => Err(MEMORY),
-        },
+        Err(fault) => Err(frame.tell_fault(alloc, fault)),
     }
 }
 

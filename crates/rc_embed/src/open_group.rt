@@ -11,7 +11,7 @@ ghost use Rattle.rc_embed.specs.Session.{HasCancelled, HasCommitted, HasNoCall, 
 use crate::declaring::Declared;
 use crate::fault::{CallFault, OpenCallFault, call_fault};
 use crate::group::{Asks, MAX_GROUP};
-use crate::session::{Last, Session, State};
+use crate::session::{Last, Session, State, put};
 use rc_store::{BeginBack, GroupReceipt, OpenBack, Position};
 use std::mem;
 
@@ -63,8 +63,9 @@ impl Session {
         ensures { AnswersOpening self.old (map A.asked declared.now) self.new result }
     {
         self.shared.declare_all(&mut self.calls, declared)?;
-        let State::Idle(pass) = mem::replace(&mut self.state, State::Moving) else {
-            unreachable!()
+        let pass = match mem::replace(&mut self.state, State::Moving) {
+            State::Idle(pass) => pass,
+            _ => unreachable!(),
         };
         match self
             .shared
@@ -72,12 +73,12 @@ impl Session {
             .open_group(pass, &self.calls[..declared.len()])
         {
             Ok(group) => {
-                self.state.come_to(State::Open(group));
+                put(&mut self.state, State::Open(group));
                 self.picked = 0;
                 Ok(())
             }
             Err(BeginBack { pass, fault }) => {
-                self.state.come_to(State::Idle(pass));
+                put(&mut self.state, State::Idle(pass));
                 Err(call_fault(fault))
             }
         }
@@ -142,23 +143,24 @@ impl Session {
             return Err(OpenCallFault::Memory);
         };
         self.shared.is_compiled();
-        let State::Open(group) = mem::replace(&mut self.state, State::Moving) else {
-            unreachable!()
+        let group = match mem::replace(&mut self.state, State::Moving) {
+            State::Open(group) => group,
+            _ => unreachable!(),
         };
         let at = group.count();
         match group.call(&self.shared.store, &self.call) {
             Ok(group) => {
-                self.state.come_to(State::Open(group));
+                put(&mut self.state, State::Open(group));
                 self.picked = at;
                 Ok(())
             }
             Err(OpenBack::Full(_)) => unreachable!(),
             Err(OpenBack::Uncovered(group)) => {
-                self.state.come_to(State::Open(group));
+                put(&mut self.state, State::Open(group));
                 Err(OpenCallFault::Uncovered)
             }
             Err(OpenBack::Memory(pass)) => {
-                self.state.come_to(State::Idle(pass));
+                put(&mut self.state, State::Idle(pass));
                 self.picked = 0;
                 Err(OpenCallFault::Memory)
             }
@@ -172,11 +174,12 @@ impl Session {
         ensures made { IfSome result (HasCommitted self.old self.new) }
         ensures none { IfNone result (HasNoCall self.old.state × HasCancelled self.old self.new) }
     {
-        let State::Open(group) = mem::replace(&mut self.state, State::Moving) else {
-            unreachable!()
+        let group = match mem::replace(&mut self.state, State::Moving) {
+            State::Open(group) => group,
+            _ => unreachable!(),
         };
         let (pass, receipt) = group.commit(&self.shared.store);
-        self.state.come_to(State::Idle(pass));
+        put(&mut self.state, State::Idle(pass));
         self.picked = 0;
         match receipt {
             Some(receipt) => {
@@ -185,7 +188,7 @@ impl Session {
                     nth,
                     replies,
                 } = receipt;
-                self.last = Last::Group(replies);
+                put(&mut self.last, Last::Group(replies));
                 Some(Position { place, nth })
             }
             None => None,

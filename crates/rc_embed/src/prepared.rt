@@ -7,7 +7,7 @@ ghost use Rattle.rc_embed.specs.Session.{HasCancelled, HasCommitted, HasNoCall, 
 ghost use Rattle.rc_embed.specs.Session.{IsOpen};
 
 use crate::fault::{CallFault, NotPrepared, call_fault};
-use crate::session::{Last, Session, State};
+use crate::session::{Last, Session, State, put};
 use rc_store::{BeginBack, GroupReceipt, Position, Receipt};
 use std::mem;
 
@@ -36,17 +36,18 @@ impl Session {
             Answers (λ _. HasPrepared self.old calls self.new) self.old calls self.new result }
     {
         self.shared.refill_call(&mut self.call, op, values)?;
-        let State::Idle(pass) = mem::replace(&mut self.state, State::Moving) else {
-            unreachable!()
+        let pass = match mem::replace(&mut self.state, State::Moving) {
+            State::Idle(pass) => pass,
+            _ => unreachable!(),
         };
         match self.shared.store.begin(pass, &self.call) {
             Ok(running) => {
-                self.state.come_to(State::Prepared(running));
+                put(&mut self.state, State::Prepared(running));
                 self.picked = 0;
                 Ok(())
             }
             Err(BeginBack { pass, fault }) => {
-                self.state.come_to(State::Idle(pass));
+                put(&mut self.state, State::Idle(pass));
                 Err(call_fault(fault))
             }
         }
@@ -93,8 +94,8 @@ impl Session {
             State::Prepared(running) => {
                 let (pass, receipt) = running.commit(&self.shared.store);
                 let Receipt { place, nth, reply } = receipt;
-                self.state.come_to(State::Idle(pass));
-                self.last = Last::Call(reply);
+                put(&mut self.state, State::Idle(pass));
+                put(&mut self.last, Last::Call(reply));
                 self.picked = 0;
                 Ok(Position { place, nth })
             }
@@ -105,13 +106,13 @@ impl Session {
                     nth,
                     replies,
                 } = receipt;
-                self.state.come_to(State::Idle(pass));
-                self.last = Last::Group(replies);
+                put(&mut self.state, State::Idle(pass));
+                put(&mut self.last, Last::Group(replies));
                 self.picked = 0;
                 Ok(Position { place, nth })
             }
             idle => {
-                self.state.come_to(idle);
+                put(&mut self.state, idle);
                 Err(NotPrepared)
             }
         }
@@ -127,25 +128,31 @@ impl Session {
     {
         match mem::replace(&mut self.state, State::Moving) {
             State::Prepared(running) => {
-                self.state
-                    .come_to(State::Idle(running.cancel(&self.shared.store)));
+                put(
+                    &mut self.state,
+                    State::Idle(running.cancel(&self.shared.store)),
+                );
                 self.picked = 0;
                 Ok(())
             }
             State::PreparedGroup(running) => {
-                self.state
-                    .come_to(State::Idle(running.cancel(&self.shared.store)));
+                put(
+                    &mut self.state,
+                    State::Idle(running.cancel(&self.shared.store)),
+                );
                 self.picked = 0;
                 Ok(())
             }
             State::Open(group) => {
-                self.state
-                    .come_to(State::Idle(group.cancel(&self.shared.store)));
+                put(
+                    &mut self.state,
+                    State::Idle(group.cancel(&self.shared.store)),
+                );
                 self.picked = 0;
                 Ok(())
             }
             idle => {
-                self.state.come_to(idle);
+                put(&mut self.state, idle);
                 Err(NotPrepared)
             }
         }

@@ -1,8 +1,9 @@
 //! Stores that are closed, and go on, for callers in other languages.
 
 ghost use Rattle.std.specs.Prelude.{◌≡◌, ◌↔◌, ◌∷◌, [], IfErr, IfOk, IsSome, IsTrue, None, Some};
-ghost use Rattle.rc_embed.specs.Closing.{HasAllPasses};
+ghost use Rattle.rc_embed.specs.Closing.{HasAllPasses, IsBackOf};
 ghost use Rattle.rc_embed.specs.OpenFrames.{KeepsAsked};
+ghost use Rattle.rc_embed.specs.Opened.{OpenSeen};
 ghost use Rattle.rc_embed.specs.ResumedFrames.{HasClosedInto, HasItemOf, HaveResumedFrom};
 ghost use Rattle.rc_embed.specs.ResumedFrames.{IsUnclosedFor, IsUnresumedFrom, TellsResumeFault};
 
@@ -12,6 +13,7 @@ use crate::fault::ResumeFault;
 use crate::open_frame::OpenFrame;
 use crate::opening::OpenStore;
 use crate::resuming::{ResumeBack, resume_into};
+use crate::session::put;
 use rc_store::Closed;
 use std::alloc::Global;
 use std::marker::Model;
@@ -62,54 +64,49 @@ impl OpenStore {
             });
         }
         let alloc = self.alloc;
-        let Ok(place) = Box::new(
-            alloc,
-            ClosedPlace {
-                closed: None,
-                alloc,
-            },
-        ) else {
-            return Err(NotClosed {
+        let closed = None;
+        match Box::new(alloc, ClosedPlace { closed, alloc }) {
+            Ok(place) => self.close_into(place),
+            Err(_) => Err(NotClosed {
                 store: self,
-                code: MEMORY,
-            });
-        };
-        match self.close() {
-            Ok(closed) => Ok(filled(place, closed, alloc)),
-            Err(CloseBack::Outside(store)) => Err(NotClosed {
-                store,
-                code: OUTSIDE,
-            }),
-            Err(CloseBack::Shared(store)) => Err(NotClosed {
-                store,
-                code: SHARED,
-            }),
-            Err(CloseBack::Memory(store)) => Err(NotClosed {
-                store,
                 code: MEMORY,
             }),
         }
     }
+
+    /// Ends it so, and puts what is left into the place.
+    fn close_into(
+        self,
+        mut place: Box<ClosedPlace, Global>,
+    ) -> Result<Box<ClosedPlace, Global>, NotClosed>
+        ensures all { IfOk result (λ _. HasAllPasses self) }
+        ensures closed { IfOk result (λ place. HasClosedInto self place.value) }
+        ensures same { IfErr result (λ back. back.store ≡ self) }
+        ensures code { IfErr result (λ back. IsUnclosedFor self back.code) }
+    {
+        let alloc = self.alloc;
+        match self.close() {
+            Ok(closed) => {
+                let closed = Some(closed);
+                drop(Box::replace(&mut place, ClosedPlace { closed, alloc }));
+                Ok(place)
+            }
+            Err(back) => Err(not_closed(back)),
+        }
+    }
 }
 
-/// The place with a closed store.
-fn filled(
-    place: Box<ClosedPlace, Global>,
-    closed: Closed,
-    alloc: Global,
-) -> Box<ClosedPlace, Global>
-    requires { closed.journal ≡ None }
-    ensures { result.value ≡ Some closed }
+/// The store that comes back, with the code that tells why it isn't closed.
+fn not_closed(back: CloseBack) -> NotClosed
+    ensures { (opened : OpenSeen) → IsBackOf opened back
+        → (result.store ≡ opened) × IsUnclosedFor opened result.code }
 {
-    let mut place = place;
-    let _ = Box::replace(
-        &mut place,
-        ClosedPlace {
-            closed: Some(closed),
-            alloc,
-        },
-    );
-    place
+    let (store, code) = match back {
+        CloseBack::Outside(store) => (store, OUTSIDE),
+        CloseBack::Shared(store) => (store, SHARED),
+        CloseBack::Memory(store) => (store, MEMORY),
+    };
+    NotClosed { store, code }
 }
 
 impl ClosedPlace {
@@ -139,8 +136,8 @@ impl ClosedPlace {
         match resume_into(self.alloc, closed, text, shapes, plans, frame.options()) {
             Ok(stores) => Ok(stores),
             Err(ResumeBack { closed, fault }) => {
-                self.closed = Some(closed);
-                Err(frame.tell_resume_fault(self.alloc, &fault))
+                put(&mut self.closed, Some(closed));
+                Err(frame.tell_resume_fault(self.alloc, fault))
             }
         }
     }
@@ -148,17 +145,14 @@ impl ClosedPlace {
 
 impl OpenFrame {
     /// Tells why a closed store doesn't go on, and answers the code.
-    fn tell_resume_fault(&mut self, alloc: Global, fault: &ResumeFault) -> u32
-        requires item { HasItemOf fault.now }
+    fn tell_resume_fault(&mut self, alloc: Global, fault: ResumeFault) -> u32
+        requires item { HasItemOf fault }
         requires none { self.old.length ≡ 0 }
-        ensures told { TellsResumeFault fault.now self.new result }
+        ensures told { TellsResumeFault fault self.new result }
         ensures asked { KeepsAsked self.old self.new }
     {
         match fault {
-            ResumeFault::Refused(fault) => match self.tell_fault(alloc, fault) {
-                Ok(code) => code,
-                Err(_) => MEMORY,
-            },
+            ResumeFault::Refused(fault) => self.tell_fault(alloc, fault),
             ResumeFault::Sessions => SESSIONS,
             ResumeFault::Limit => LIMIT,
             ResumeFault::Other => OTHER,

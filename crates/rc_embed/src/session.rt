@@ -36,14 +36,12 @@ pub(crate) enum State {
     Moving,
 }
 
-impl State {
-    /// Comes to the next one. (What lets a state go stands here alone: it has many ways, and each place of
-    /// it would be proved anew.)
-    pub(crate) fn come_to(&mut self, next: State)
-        ensures { self.new ≡ next }
-    {
-        *self = next;
-    }
+/// Puts a value into a place, and lets go what stood there. (Of a known type each part would be let go, and proved to be, at
+/// each such place; here nothing is known of it.)
+pub(crate) fn put<T: Drop>(place: &mut T, value: T)
+    ensures { place.new ≡ value }
+{
+    *place = value;
 }
 
 /// What the last receipt of a session gave, of a call or of a group; nothing where none was made.

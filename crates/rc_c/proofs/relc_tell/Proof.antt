@@ -1,7 +1,6 @@
 -- `relc_tell` lends both sessions to `tell_on` for the call, and has both back after it.
-use Rattle.std.proofs.Common.{◌≡◌, ℕ, [], ◌∷◌, ◌++◌, refl, sym, subst, w32, MutBor}
-use Rattle.rc_c.proofs.Imports.{proved, SessionSeen, the_row}
-use Rattle.rc_c.specs.Telling.{AnswersTold, IsTold}
+use Rattle.std.proofs.Common.{◌≡◌, ℕ, [], ◌∷◌, ◌++◌, refl, subst, w32, MutBor}
+use Rattle.rc_c.proofs.Imports.{proved, SessionSeen, the_row, AnswersTold, IsTold}
 use base.Fraction.{full_share}
 use base.Logic.{SProp, emp, id⊢}
 use base.Fml.{fex, fsep, ftrue, flft, flent}

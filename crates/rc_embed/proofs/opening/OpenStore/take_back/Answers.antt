@@ -1,4 +1,4 @@
-use Rattle.std.proofs.Common.{rules, ◌≡◌, ◌<◌, ℕ, List, ◌∷◌, ◌++◌, length, take, drop, All, sym, subst, ap, ◌∙◌, arith}
+use Rattle.std.proofs.Common.{rules, ◌≡◌, ℕ, List, ◌∷◌, ◌++◌, length, take, drop, All, sym, subst, ap, ◌∙◌, arith}
 use Rattle.rc_embed.proofs.Imports.{arc_value, PassSeen, IsFree, StoreSeen, State, Idle, IsPlaceOf, number_of, pass_count, held, OpenSeen, IsStateOf, SessionSeen}
 use Rattle.rc_embed.proofs.NumberLemmas.{all_with}
 use Rattle.rc_embed.proofs.SessionLemmas.{same_idle}

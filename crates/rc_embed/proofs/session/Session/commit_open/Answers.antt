@@ -1,6 +1,5 @@
 use Rattle.std.proofs.Common.{◌≡◌, ◌∙◌, [], ap, rules, refl, subst, sym}
 use Rattle.rc_embed.proofs.Imports.{HasMadeOpenGroup, IsAsBefore, StoreSeen, State, HasNoCall, HeldFor, SessionSeen, made_of, replies_given, uncommitted_in}
-use Rattle.rc_embed.specs.declared.session.Last.TheVariants as lasts
 use Rattle.rc_embed.specs.declared.session.State.TheVariants as states
 use Rattle.rc_embed.proofs.SessionLemmas.{given_so, told_open}
 use Rattle.rc_embed.proofs.session.Session.commit_open.Goals as goal
@@ -21,14 +20,14 @@ returns-in-Some-clause-made c =
       running = made_of group;
       after = after;
       was = ap uncommitted_in state;
-      is = c.come_to.ensures;
-      told = told_open store group.steps receipt.replies counts made.given;
+      is = c.put.ensures;
+      told = ap replies_given c.put-in-Some.ensures ∙ told_open store group.steps receipt.replies counts made.given;
       picked = refl;
       entry = so.entry;
       held =
           subst (λ (s : State). HeldFor c.args.self.now.store s group.steps so.entry.at_commit) (sym state) so.exact;
       given =
-          given_so c.args.self.now.store (replies_given (lasts.Group receipt.replies))
+          given_so c.args.self.now.store (replies_given c.put-in-Some.new.place)
           (ap (λ (s : StoreSeen). s.row.keeping) (sym here) ∙ counts);
     }
 
@@ -44,7 +43,7 @@ returns-in-None-clause-none c =
         running = made_of group;
         after = after;
         was = ap uncommitted_in state;
-        is = c.come_to.ensures;
+        is = c.put.ensures;
         last = ap (λ (s : SessionSeen). s.last) c.self.view_is;
         picked = refl;
         before = none.1;

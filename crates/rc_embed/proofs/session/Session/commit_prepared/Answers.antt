@@ -1,6 +1,5 @@
 use Rattle.std.proofs.Common.{◌≡◌, ◌∙◌, [], ◌∷◌, ap, rules, refl, subst, sym}
 use Rattle.rc_embed.proofs.Imports.{StoreSeen, Position, State, HeldFor, alone, receipt_of, replies_given, uncommitted_in}
-use Rattle.rc_embed.specs.declared.session.Last.TheVariants as lasts
 use Rattle.rc_embed.specs.declared.session.State.TheVariants as states
 use Rattle.rc_embed.proofs.SessionLemmas.{AreCommitted, given_so, made_alone, prepared_committed, told_committed, told_group_committed}
 use Rattle.rc_embed.proofs.session.Session.commit_prepared.Goals as goal
@@ -10,7 +9,7 @@ returns-in-Prepared-clause-made c =
     let running = c.in-Prepared.running in
     let after = c.commit-pass.result.0 in
     let receipt = c.commit-pass.result.1 in
-    let told = replies_given (lasts.Call receipt.reply) in
+    let told = replies_given c.put-in-Prepared.new.place in
     let at : Position = record { place = receipt.place; nth = receipt.nth } in
     let store = c.behind-self.inside.store in
     let counts = c.behind-self.invariant.counts in
@@ -24,8 +23,8 @@ returns-in-Prepared-clause-made c =
       running = alone running;
       after = after;
       was = ap uncommitted_in state;
-      is = c.come_to.ensures;
-      told = told_committed store running after receipt counts c.commit-pass.ensures.made;
+      is = c.put.ensures;
+      told = ap replies_given c.put-in-Prepared.ensures ∙ told_committed store running after receipt counts c.commit-pass.ensures.made;
       picked = refl;
       entry = so.entry;
       held =
@@ -39,7 +38,7 @@ returns-in-PreparedGroup-clause-made c =
     let running = c.in-PreparedGroup.running in
     let after = c.commit-pass-in-PreparedGroup.result.0 in
     let receipt = c.commit-pass-in-PreparedGroup.result.1 in
-    let told = replies_given (lasts.Group receipt.replies) in
+    let told = replies_given c.put-in-PreparedGroup-2.new.place in
     let store = c.behind-self-in-PreparedGroup.inside.store in
     let counts = c.behind-self-in-PreparedGroup.invariant.counts in
     let here : store ≡ c.args.self.now.store = search rules in
@@ -51,8 +50,8 @@ returns-in-PreparedGroup-clause-made c =
       running = running;
       after = after;
       was = ap uncommitted_in state;
-      is = c.come_to-in-PreparedGroup.ensures;
-      told = told_group_committed store running after receipt counts c.commit-pass-in-PreparedGroup.ensures.made;
+      is = c.put-in-PreparedGroup.ensures;
+      told = ap replies_given c.put-in-PreparedGroup-2.ensures ∙ told_group_committed store running after receipt counts c.commit-pass-in-PreparedGroup.ensures.made;
       picked = refl;
       entry = so.entry;
       held =

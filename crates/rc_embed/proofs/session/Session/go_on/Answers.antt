@@ -29,7 +29,7 @@ returns-in-Err-Uncovered c =
       );
       left =
           ap (λ (s : State). record (session_seen c.self.inside) { state = s })
-          (c.come_to-in-Err-Uncovered.ensures ∙ ap (λ (g : OpenGroupSeen). states.Open g) back.0 ∙ sym inner)
+          (c.put-in-Err-Uncovered.ensures ∙ ap (λ (g : OpenGroupSeen). states.Open g) back.0 ∙ sym inner)
           ∙ c.self.view_is;
     }
 
@@ -45,13 +45,13 @@ returns-in-Err-Memory c =
       made = tt;
       cause = (
         c.requires,
-        subst (λ (x : State × State). HasNoRefusalIn x.0 x.1) (λ i. (sym state i, sym c.come_to-in-Err-Memory.ensures i)) back.4,
+        subst (λ (x : State × State). HasNoRefusalIn x.0 x.1) (λ i. (sym state i, sym c.put-in-Err-Memory.ensures i)) back.4,
       );
       left = record {
         running = made_of group;
         after = c.in-Err-Memory.pass;
         was = ap uncommitted_in state;
-        is = c.come_to-in-Err-Memory.ensures;
+        is = c.put-in-Err-Memory.ensures;
         last = ap (λ (s : SessionSeen). s.last) c.self.view_is;
         picked = refl;
         before = back.1;
