@@ -368,7 +368,7 @@ uint32_t relc_unchecked_tell(relc_session *from, relc_session *to);
 uint32_t relc_tell(relc_session *from, relc_session *to)
 {
     struct handle *tells = enter(__func__, from, SESSION), *hears = enter(__func__, to, SESSION);
-    if (tells->of != hears->of)
+    if (tells->of != hears->of || tells->number != hears->number)
         stop(__func__, "the session is of another ", KINDS[STORE]);
     uint32_t code = relc_unchecked_tell(from, to);
     leave(hears);

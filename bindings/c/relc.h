@@ -354,8 +354,9 @@ uint32_t relc_give_back(relc_store *store, relc_session *session);
 /* Makes a closed store of a store that has all its sessions back (relc_give_back): it has the tuples and the
  * history, and no operation is called on it until it is resumed. RELC_DONE: the store's handle ends, and *closed
  * is the caller's. Else RELC_OUTSIDE, where a session that was begun isn't given back, as one that was closed,
- * also before; or RELC_MEMORY; or RELC_SHARED, which is built never to come. In all three the store is as it was and goes on, and *closed is not written. Its
- * time rises with the stripes and the passes, and not with the tuples. */
+ * also before; or RELC_MEMORY; or RELC_SHARED, which is built never to come. In all three the store is as it
+ * was and goes on, and *closed is not written. Its time rises with the stripes and the passes, and not with the
+ * tuples. */
 uint32_t relc_close(relc_store *store, relc_closed **closed);
 
 /* Makes a store of a closed one again, by texts and a frame as relc_open_with takes them. It has the tuples of the

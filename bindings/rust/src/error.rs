@@ -78,7 +78,7 @@ pub enum Error {
     },
     /// All sessions are out, or spent.
     NoneLeft,
-    /// The operation, or what was seen, is another store's.
+    /// The operation, the session, or what was seen, is another store's.
     Foreign,
     /// A clone of the store, or a session of it, is alive.
     InUse,
@@ -151,7 +151,7 @@ impl fmt::Display for Error {
                 )
             }
             Error::NoneLeft => write!(f, "all sessions are out, or spent"),
-            Error::Foreign => write!(f, "the operation, or what was seen, is another store's"),
+            Error::Foreign => write!(f, "the operation, the session, or what was seen, is another store's"),
             Error::InUse => write!(f, "a clone of the store, or a session of it, is alive"),
             Error::FewerSessions => write!(f, "the closed store had more sessions"),
             Error::LowerLimit => write!(f, "a session of the closed store has made more calls"),

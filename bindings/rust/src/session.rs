@@ -556,7 +556,8 @@ impl Session {
     /// Tells another session of the store all that this one was told of the history: its own calls,
     /// and what others told it. Later calls of the other come after all of it.
     ///
-    /// `Foreign` where the other is of another store. Then nothing changes.
+    /// `Foreign` where the other is of another store, and `Prepared` where what one of the two had
+    /// prepared or open was forgotten (`mem::forget`). Then nothing changes.
     pub fn tell(&mut self, other: &mut Session) -> Result<(), Error> {
         if other.store() != self.store() {
             return Err(Error::Foreign);

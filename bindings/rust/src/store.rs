@@ -143,6 +143,7 @@ impl Shared {
         // SAFETY: nobody else has the store, and `closed` is written where it answers 0.
         match unsafe { sys::relc_close(store.handle.as_ptr(), &mut closed) } {
             sys::DONE => Ok(ClosedHandle::of(closed)),
+            // `SHARED` is built never to come.
             sys::OUTSIDE | sys::SHARED => Err(Error::InUse),
             sys::MEMORY => Err(Error::Memory),
             code => unreachable!("closing is never refused by code {code}"),
