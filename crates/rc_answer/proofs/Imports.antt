@@ -86,4 +86,4 @@ pub use Rattle.std.proofs.lemmas.Option.{get_or_from_slice_get, slice_get_within
 pub use Rattle.std.specs.List.{AllByRecursion, flat_map, range_with_len, slice_get}
 pub use Rattle.std.specs.Option.{option_map}
 pub use Rattle.std.specs.Prelude.{IfOk, IfSome, IsSome, OnOk, option_copied}
-pub use Rattle.std.specs.Result.{IsErr, OnErr}
+pub use Rattle.std.specs.Result.{IsErr, OnErr, result_and}

@@ -1,6 +1,6 @@
 -- What is written of a workload whose calls bring their own operation, and what its run leaves.
-use Rattle.std.proofs.Common.{◌≡◌, ◌++◌, ◌∙◌, ◌-◌, ◌<◌, ℕ, inl, inr, List, Option, Result, Ok, Err, ap, drop, length, refl, subst, sym, take}
-use Rattle.rc_answer.proofs.Imports.{take-append-drop, take_rest, IfOk, IsErr, TextPlace, Adds, AddsPrefix, shapes_text, further_text, IsAccepted, Op, Spec, In, append_in_left, append_in_right, op_at, ArePlansOf, SpecWithPlans, plan_at, IsPlanned, IsRead, ReadsAs, rest_place, Broken, Reading, spec_reading, Rest, ReadRefusal, HasSingleTurns, open_reading, with_operations, OpenWork, AnswersOpen, AnswersOpenWork, IsOpenReport, ArePlanned, HasOpenText, HasOpenWorkText, IsOfItsStore, IsRunBy, IsRunOf, done_in, open_text, run_text, is_report, WritesRefusal, Writes, WritesWhole, Ran, Status, Done, Stop, Memory, Sink}
+use Rattle.std.proofs.Common.{◌≡◌, ◌++◌, ◌∙◌, ◌-◌, ◌<◌, ℕ, inl, List, Option, Result, Ok, Err, ap, drop, length, refl, subst, sym, take}
+use Rattle.rc_answer.proofs.Imports.{take-append-drop, take_rest, IfOk, TextPlace, Adds, shapes_text, further_text, IsAccepted, Op, Spec, In, append_in_left, append_in_right, op_at, ArePlansOf, SpecWithPlans, plan_at, IsPlanned, IsRead, ReadsAs, rest_place, Broken, Reading, spec_reading, Rest, ReadRefusal, HasSingleTurns, open_reading, with_operations, OpenWork, AnswersOpen, AnswersOpenWork, IsOpenReport, ArePlanned, HasOpenText, HasOpenWorkText, IsOfItsStore, IsRunBy, IsRunOf, open_text, run_text, is_report, WritesRefusal, Writes, Ran, Status, Done, Stop}
 use Rattle.rc_reader.specs.declared.refusal.ReadRefusal.TheVariants as refusals
 use Rattle.rc_answer.proofs.AnswerLemmas.{read_place, writes_wider}
 use Rattle.rc_answer.proofs.RanLemmas.{planned_run}
@@ -32,27 +32,15 @@ module _ (spec : Spec) (read : OpenWork) (ran : Ran) (run : IsRunOf (with_operat
       ap (λ n. open_text n read.work.ranks ran) count
       ∙ ap (λ (l : List ℕ). l ++ run_text read.work.ranks ran) (further_text spec ran.closed.compiled.spec read.shapes run.of_spec)
 
-  is_open_report : IsOpenReport spec read whole Done
-  is_open_report = record {
+  whole_is_report : IsOpenReport spec read whole Done
+  whole_is_report = record {
     others = run_text read.work.ranks ran;
     report = is_report (ArePlanned (with_operations spec read.shapes)) (with_operations spec read.shapes) read.work ran run;
     printed = refl;
   }
 
-  -- the whole text
-  pub open_written : (declared : ℕ) → declared ≡ length spec.ops → (old new : Option (List ℕ)) → Adds old (open_text declared read.work.ranks ran) new
-      → WritesWhole (IsOpenReport spec read) old new Done
-  open_written declared count old new adds =
-      (whole, is_open_report, subst (λ (l : List ℕ). Adds old l new) (text_is declared count) adds)
-
-  -- a part of it
-  pub open_begun : (declared : ℕ) → declared ≡ length spec.ops → (old new : Option (List ℕ)) (r : Result Ran Stop) → IsErr r
-      → AddsPrefix old (open_text declared read.work.ranks ran) new → Writes (IsOpenReport spec read) old new (done_in r)
-  open_begun declared count old new (Ok other) e part = cc
-  open_begun declared count old new (Err Memory) e part =
-      inr (whole, Done, is_open_report, subst (λ (l : List ℕ). AddsPrefix old l new) (text_is declared count) part)
-  open_begun declared count old new (Err Sink) e part =
-      (whole, Done, is_open_report, subst (λ (l : List ℕ). AddsPrefix old l new) (text_is declared count) part)
+  pub is_open_report : (declared : ℕ) → declared ≡ length spec.ops → IsOpenReport spec read (open_text declared read.work.ranks ran) Done
+  is_open_report declared count = subst (λ (l : List ℕ). IsOpenReport spec read l Done) (sym (text_is declared count)) whole_is_report
 
 -- a run by the planned plans of the specification with the shapes
 pub extended_run : (spec extended : Spec) (made : SpecWithPlans) (read : OpenWork) (ran : Ran) → extended ≡ with_operations spec read.shapes → made.spec ≡ extended

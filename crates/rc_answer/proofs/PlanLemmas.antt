@@ -1,6 +1,6 @@
 -- The plans of operations, written one after another.
-use Rattle.std.proofs.Common.{◌≡◌, ℕ, zero, suc, ◌+◌, ◌<◌, ◌≤◌, List, [], ◌∷◌, ◌++◌, codes, length, take, Option, Some, Result, Ok, Err, inr, refl, sym, ap, ◌∙◌, subst, arith}
-use Rattle.rc_answer.proofs.Imports.{flat_map, range_with_len, slice_get, IsErr, length-range_with_len, Adds, AddsPrefix, adds_more, adds_prefix_longer, adds_prefix_more, printed_lines, Spec, Statement, IsCompiled, SpecWithPlans, plan_at, plan_text, IsPlanned, op_at, IsPlansText, Writes, WritesPart, WritesWhole, ArePlanned, op_text, plans_text, Status, Done, Stop, Memory, Sink}
+use Rattle.std.proofs.Common.{◌≡◌, ℕ, zero, suc, ◌+◌, ◌<◌, ◌≤◌, List, [], ◌∷◌, ◌++◌, codes, length, take, Option, Some, Result, Ok, Err, inr, refl, ap, ◌∙◌, subst, arith}
+use Rattle.rc_answer.proofs.Imports.{flat_map, range_with_len, slice_get, IsErr, length-range_with_len, Adds, AddsPrefix, adds_more, adds_prefix_longer, adds_prefix_more, printed_lines, Spec, Statement, SpecWithPlans, plan_at, plan_text, IsPlansText, Writes, WritesPart, WritesWhole, ArePlanned, op_text, plans_text, Status, Done, Stop, Memory, Sink}
 use Rattle.rc_answer.proofs.WriteLemmas.{part_written, next_written, next_begun, all_written, of_one}
 
 number_there : (a n i j : ℕ) → i < n → a + i ≡ j → slice_get (range_with_len a n) i ≡ Some j
@@ -46,16 +46,6 @@ pub part_writes : (A : List ℕ → Status → Type 0) (old new : Option (List �
 part_writes A old new (Ok status) e part = cc
 part_writes A old new (Err Memory) e part = inr part
 part_writes A old new (Err Sink) e part = part
-
--- ---- the plans, and then `end`
-
--- what a compiled specification keeps is a planned plan for each operation
-pub made_planned : (accepted inside : Spec) (plans : List (List Statement)) (made : SpecWithPlans) → record { spec = inside; plans = plans } ≡ made → IsCompiled inside plans → made.spec ≡ accepted
-    → ((op : ℕ) → op < length accepted.ops → IsPlanned accepted (op_at accepted op) (plan_at made.plans op)) → ArePlanned accepted made.plans
-made_planned accepted inside plans made view compiled same each = record {
-  count = sym (ap (λ (p : SpecWithPlans). length p.plans) view) ∙ compiled.planned.count ∙ ap (λ (p : SpecWithPlans). length p.spec.ops) view ∙ ap (λ (s : Spec). length s.ops) same;
-  each = each;
-}
 
 -- ---- the plans, and then another text
 

@@ -1,6 +1,6 @@
 -- What is written of a run.
 use Rattle.std.proofs.Common.{◌≡◌, ◌∙◌, ◌↔◌, ◌<◌, ◌++◌, ℕ, List, Option, Result, Ok, Err, ap, inr, length, refl, subst, sym}
-use Rattle.rc_answer.proofs.Imports.{IfOk, IfSome, IsSome, IsErr, OnErr, printed_lines, adds_prefix_longer, adds_prefix_more, Adds, AddsPrefix, In, Pairs, Spec, op_at, ArePlansOf, SpecWithPlans, plan_at, Statement, IsPlanned, IsOfRelation, Entry, AllFit, replay, ClosedSeen, HasOneHistory, IsAccepted, Reading, spec_reading, IsRead, rest_place, Rest, work_reading, HasRun, Also, Work, report, Runs, Outcome, Ran, Status, Done, Stop, Memory, Sink, IsReportBy, ArePlanned, plans_text, HasRunText, IsOfItsStore, IsReadAs, IsRunBy, IsRunOf, done_in, entries_in, outcome_in, run_text, status_in, is_report, report_by, run_by, Writes, WritesWhole}
+use Rattle.rc_answer.proofs.Imports.{IfOk, IfSome, IsSome, OnErr, OnOk, result_and, printed_lines, adds_prefix_longer, adds_prefix_more, Adds, AddsPrefix, In, Pairs, Spec, op_at, ArePlansOf, SpecWithPlans, plan_at, Statement, IsPlanned, IsOfRelation, Entry, AllFit, replay, ClosedSeen, HasOneHistory, IsAccepted, Reading, spec_reading, IsRead, rest_place, Rest, work_reading, HasRun, Also, Work, report, Runs, Outcome, Ran, Status, Done, Stop, Memory, Sink, IsReportBy, ArePlanned, plans_text, HasRunText, IsOfItsStore, IsReadAs, IsRunBy, IsRunOf, done_in, entries_in, outcome_in, run_text, status_in, report_by, run_by, Writes, CountsFaults}
 use Rattle.rc_answer.proofs.AnswerLemmas.{read_place, writes_wider}
 
 -- ---- the run
@@ -90,16 +90,33 @@ module _ (made here : SpecWithPlans) (is : here ≡ made) (journal : Option (Lis
       (subst (λ (c : SpecWithPlans). Adds old (plans_text c.spec c.plans) mid) is first)
       (subst (λ (l : List ℕ). AddsPrefix mid l new) (λ i. printed_lines (report (of_made i) ranks (all i) (same i))) part)
 
-module _ (ArePlans : List (List Statement) → Type 0) (spec : Spec) (work : Work) (ran : Ran) (old new : Option (List ℕ)) (run : IsRunBy ArePlans spec work ran) where
-  -- the whole text
-  pub run_written : Adds old (run_text work.ranks ran) new → WritesWhole (IsReportBy ArePlans spec work) old new Done
-  run_written adds = (run_text work.ranks ran, is_report ArePlans spec work ran run, adds)
+-- a run that is handed on where its text was written
+module _ {U : Type 0} (ran : Ran) where
+  pub handed_on : (r : Result U Stop) (o : Result Ran Stop) → o ≡ result_and r (Ok ran) → (P : Ran → Type 0) → OnOk r (P ran) → IfOk o P
+  handed_on (Ok u) o is P held = subst (λ (x : Result Ran Stop). IfOk x P) (sym is) held
+  handed_on (Err stop) o is P held = subst (λ (x : Result Ran Stop). IfOk x P) (sym is) tt
 
-  -- a part of it
-  pub run_begun : (r : Result Ran Stop) → IsErr r → AddsPrefix old (run_text work.ranks ran) new → Writes (IsReportBy ArePlans spec work) old new (done_in r)
-  run_begun (Ok other) e part = cc
-  run_begun (Err Memory) e part = inr (run_text work.ranks ran, Done, is_report ArePlans spec work ran run, part)
-  run_begun (Err Sink) e part = (run_text work.ranks ran, Done, is_report ArePlans spec work ran run, part)
+  pub handed_whole : (r : Result U Stop) (o : Result Ran Stop) → o ≡ result_and r (Ok ran) → (P : Ran → Type 0) → P ran → IfOk o P
+  handed_whole (Ok u) o is P held = handed_on (Ok u) o is P held
+  handed_whole (Err stop) o is P held = handed_on (Err stop) o is P tt
+
+  -- the whole text of it or a part
+  pub handed_text : (r : Result U Stop) (o : Result Ran Stop) → o ≡ result_and r (Ok ran) → (A : List ℕ → Status → Type 0) (old new : Option (List ℕ)) (text : List ℕ)
+      → A text Done → OnOk r (Adds old text new) → OnErr r (AddsPrefix old text new) → Writes A old new (done_in o)
+  handed_text (Ok u) o is A old new text of all part = subst (λ (x : Result Ran Stop). Writes A old new (done_in x)) (sym is) (text, of, all)
+  handed_text (Err Memory) o is A old new text of all part = subst (λ (x : Result Ran Stop). Writes A old new (done_in x)) (sym is) (inr (text, Done, of, part))
+  handed_text (Err Sink) o is A old new text of all part = subst (λ (x : Result Ran Stop). Writes A old new (done_in x)) (sym is) (text, Done, of, part)
+
+  pub handed_counts : (r : Result U Stop) (o : Result Ran Stop) → o ≡ result_and r (Ok ran) → (old new : ℕ) → CountsFaults old new r → CountsFaults old new o
+  handed_counts (Ok u) o is old new counts =
+      subst (λ (x : Result Ran Stop). CountsFaults old new x) (sym is)
+      (record { failed = λ f. absurd (let g = f in cc); quiet = counts.quiet; memory = λ f. absurd (let g = f in cc); count = counts.count })
+  handed_counts (Err Memory) o is old new counts =
+      subst (λ (x : Result Ran Stop). CountsFaults old new x) (sym is)
+      (record { failed = λ f. absurd (let g = f in cc); quiet = tt; memory = λ f. counts.memory refl; count = counts.count })
+  handed_counts (Err Sink) o is old new counts =
+      subst (λ (x : Result Ran Stop). CountsFaults old new x) (sym is)
+      (record { failed = λ f. counts.failed refl; quiet = tt; memory = λ f. absurd (let g = f in cc); count = counts.count })
 
 -- ---- outcomes
 

@@ -1,17 +1,7 @@
 -- What is written of a run of a generated workload.
-use Rattle.std.proofs.Common.{◌≡◌, ◌∙◌, ◌<◌, ◌≤◌, ◌^◌, ◌*◌, ℕ, List, Option, Result, Ok, Err, ap, arith, inr, length, refl, subst, sym}
-use Rattle.rc_answer.proofs.Imports.{IfOk, IfSome, IsSome, IsErr, Adds, AddsPrefix, Pairs, Spec, Entry, steps_of, Work, Summary, counted, rows_in, summary, generated, generated_runs_are_small, sample_graph, summary_text, Outcome, Ran, Stop, Memory, Sink, Done, IsBigText, IsRunOf, done_in, entries_in, outcome_in, summary_is_one_threads, CountsFaults, Writes}
+use Rattle.std.proofs.Common.{◌≡◌, ◌∙◌, ◌<◌, ◌≤◌, ◌^◌, ◌*◌, ℕ, List, Option, Result, Ok, Err, ap, arith, length, refl, subst, sym}
+use Rattle.rc_answer.proofs.Imports.{IfOk, IfSome, IsSome, OnOk, HasSummaryText, IsOfItsStore, Adds, Pairs, Spec, Entry, steps_of, Work, Summary, counted, rows_in, summary, generated, generated_runs_are_small, sample_graph, summary_text, Outcome, Ran, Stop, Done, IsBigText, IsRunOf, entries_in, outcome_in, summary_is_one_threads}
 use Rattle.rc_answer.specs.Big.{ran_text}
-
--- what a writer's error says of the sink's faults is so whatever the writer would have answered
-counts_of_error : {A B : Type 0} (old new : ℕ) (e : Stop) → CountsFaults {A = A} old new (Err e) → CountsFaults {A = B} old new (Err e)
-counts_of_error old new Memory counts = record { failed = λ f. absurd (let g = f in cc); quiet = tt; memory = λ f. counts.memory refl; count = counts.count }
-counts_of_error old new Sink counts = record { failed = λ f. counts.failed refl; quiet = tt; memory = λ f. absurd (let g = f in cc); count = counts.count }
-
--- so it is of what a `?` behind it hands on
-pub counts_handed_on : {A B : Type 0} (old new : ℕ) (e f : Stop) (s : Result B Stop) → CountsFaults {A = A} old new (Err e) → s ≡ Err f → f ≡ e → CountsFaults old new s
-counts_handed_on {A} {B} old new e f s counts is same =
-    subst (λ (x : Result B Stop). CountsFaults old new x) (sym (is ∙ ap Err same)) (counts_of_error old new e counts)
 
 -- what is printed of a run's own journal and rows
 pub printed_text : (ran : Ran) (s : Summary) (entries : List Entry) (rows : List Pairs) (text : List ℕ) → text ≡ summary_text s → s ≡ summary entries rows
@@ -40,16 +30,14 @@ module _ (seed calls : ℕ) (ran : Ran) (run : IsRunOf sample_graph (generated s
       let small : counted rows_in (steps_of run.history) ≤ 256 * calls = (generated_runs_are_small seed calls run.history run.runs).1 in
       omega (arith, same, small, few)
 
-  module _ (old new : Option (List ℕ)) where
-    -- its whole summary
-    pub summed : Adds old (ran_text ran) new → Writes (IsBigText seed calls) old new (Ok Done)
-    summed adds = (ran_text ran, (summary_is_one_threads seed calls ran run, refl), adds)
+  -- its summary is the one text
+  pub is_big : IsBigText seed calls (ran_text ran) Done
+  is_big = (summary_is_one_threads seed calls ran run, refl)
 
-    -- a part of it
-    pub summed_in_part : (r : Result Ran Stop) → IsErr r → AddsPrefix old (ran_text ran) new → Writes (IsBigText seed calls) old new (done_in r)
-    summed_in_part (Ok other) e part = cc
-    summed_in_part (Err Memory) e part = inr (ran_text ran, Done, (summary_is_one_threads seed calls ran run, refl), part)
-    summed_in_part (Err Sink) e part = (ran_text ran, Done, (summary_is_one_threads seed calls ran run, refl), part)
+  pub has_summary : (old new : Option (List ℕ)) {U : Type 0} (r : Result U Stop) → IsOfItsStore ran → OnOk r (Adds old (ran_text ran) new)
+      → OnOk r (HasSummaryText seed calls old new ran)
+  has_summary old new (Ok u) store adds = record { run = run; store = store; written = adds }
+  has_summary old new (Err stop) store adds = tt
 
 -- ---- outcomes
 

@@ -77,8 +77,10 @@ fn write_judgement<K: Sink>(
 {
     let compiled = compile(alloc, accepted)?;
     let _ = compiled.accepted();
-    let verdict = audit(alloc, hash_seed, form, &compiled, work, text, rest)?;
-    write_verdict(alloc, sink, verdict)
+    let verdict = audit(alloc, hash_seed, form, &compiled, work, text, rest);
+    // Dropped by its type's own `drop`, which is proved, and not field by field.
+    drop(compiled);
+    write_verdict(alloc, sink, verdict?)
 }
 
 /// What may stand in the workload of a report of this form.
@@ -114,9 +116,17 @@ pub(crate) fn answer_audit<K: Sink>(
         Ok(accepted) => accepted,
         Err(fault) => return refuse_spec(alloc, sink, fault),
     };
-    let (work, behind) = match read_work_part(alloc, text, rest, accepted.spec(), also_in(form)) {
-        Ok(read) => read,
-        Err(refusal) => return refuse(alloc, sink, refusal),
-    };
-    write_judgement(alloc, hash_seed, form, accepted, &work, text, behind, sink)
+    match read_work_part(alloc, text, rest, accepted.spec(), also_in(form)) {
+        Ok((work, behind)) => {
+            let status = write_judgement(
+                alloc, hash_seed, form, accepted, &work, text, behind, sink,
+            );
+            drop(work);
+            status
+        }
+        Err(refusal) => {
+            drop(accepted);
+            refuse(alloc, sink, refusal)
+        }
+    }
 }

@@ -120,9 +120,16 @@ fn run_by_plans<R: Threads + Wait + Sync, K: Sink, G: Gate + Sync>(
         Err(fault) => return refuse_plan(alloc, sink, fault),
     };
     let spec = compiled.accepted().spec();
-    let work = match read_work(alloc, text, behind, spec, Also::Nothing) {
-        Ok(work) => work,
-        Err(refusal) => return refuse_run(alloc, sink, refusal),
-    };
-    with_run(perform(rt, alloc, hash_seed, sink, compiled, &work, gate))
+    match read_work(alloc, text, behind, spec, Also::Nothing) {
+        Ok(work) => {
+            let ran = perform(rt, alloc, hash_seed, sink, compiled, &work, gate);
+            // Dropped by its type's own `drop`, which is proved, and not field by field.
+            drop(work);
+            with_run(ran)
+        }
+        Err(refusal) => {
+            drop(compiled);
+            refuse_run(alloc, sink, refusal)
+        }
+    }
 }

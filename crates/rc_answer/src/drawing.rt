@@ -59,7 +59,9 @@ fn write_plan_of<K: Sink>(
     ensures faults { CountsFaults (K.faults sink.old) (K.faults sink.new) result }
 {
     let compiled = compile(alloc, accepted)?;
-    let text = print_plan_drawing(alloc, compiled.accepted(), op, compiled.plan(op))?;
-    write_text(sink, &text)?;
+    let text = print_plan_drawing(alloc, compiled.accepted(), op, compiled.plan(op));
+    // Dropped by its type's own `drop`, which is proved, and not field by field.
+    drop(compiled);
+    write_text(sink, &text?)?;
     Ok(Status::Done)
 }

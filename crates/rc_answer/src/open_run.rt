@@ -28,9 +28,9 @@ use rc_maps::Seed;
 use rc_open::print_shapes;
 use rc_place::accept;
 use rc_reader::{Rest, read_spec};
-use rc_spec::Accepted;
+use rc_spec::{Accepted, Ops};
 use rc_store::Gate;
-use rc_work::{OpenWork, Work, read_open};
+use rc_work::{Work, read_open};
 use std::alloc::Global;
 use std::sync::Wait;
 use std::thread::Threads;
@@ -67,31 +67,29 @@ fn perform_open<R: Threads + Wait + Sync, K: Sink, G: Gate + Sync>(
     hash_seed: Seed,
     sink: &mut K,
     accepted: Accepted,
-    read: OpenWork,
+    shapes: Ops,
+    work: &Work,
     gate: &G,
 ) -> Result<Ran, Stop>
-    requires shapes { AllByRecursion (IsShapeOf accepted) read.shapes }
-    requires few { length read.shapes ≤ 32 }
-    requires room { length accepted.ops + length read.shapes ≤ 64 }
-    requires fit { RoundsFit (with_operations accepted read.shapes) read.work.rounds }
-    requires threads { HasThreads read.work }
-    requires limits { KeepsLimits read.work }
-    ensures run { IfOk result (IsRunOf (with_operations accepted read.shapes) read.work) }
+    requires shapes { AllByRecursion (IsShapeOf accepted) shapes }
+    requires few { length shapes ≤ 32 }
+    requires room { length accepted.ops + length shapes ≤ 64 }
+    requires fit { RoundsFit (with_operations accepted shapes) work.now.rounds }
+    requires threads { HasThreads work.now }
+    requires limits { KeepsLimits work.now }
+    ensures run { IfOk result (IsRunOf (with_operations accepted shapes) work.now) }
     ensures store { IfOk result IsOfItsStore }
     ensures text { IfOk result (λ ran. Adds (K.held sink.old)
-        (shapes_text accepted read.shapes ++ run_text read.work.ranks ran) (K.held sink.new)) }
-    ensures written { Writes (IsOpenReport accepted read) (K.held sink.old) (K.held sink.new)
-        (done_in result) }
+        (shapes_text accepted shapes ++ run_text work.now.ranks ran) (K.held sink.new)) }
+    ensures written { Writes (IsOpenReport accepted (record { shapes = shapes; work = work.now }))
+        (K.held sink.old) (K.held sink.new) (done_in result) }
     ensures faults { CountsFaults (K.faults sink.old) (K.faults sink.new) result }
 {
     let declared = accepted.spec().ops.list().len();
-    let compiled = compile_open(rt, alloc, accepted, read.shapes, &read.work)?;
+    let compiled = compile_open(rt, alloc, accepted, shapes, work)?;
     let _ = compiled.accepted();
-    let ran = make_run(rt, alloc, hash_seed, compiled, &read.work, gate)?;
-    match write_open_run(alloc, sink, declared, &ran, &read.work) {
-        Ok(()) => Ok(ran),
-        Err(stop) => Err(stop),
-    }
+    let ran = make_run(rt, alloc, hash_seed, compiled, work, gate)?;
+    write_open_run(alloc, sink, declared, &ran, work).and(Ok(ran))
 }
 
 /// Answers a workload that stands from a place of a text on, behind an accepted specification.
@@ -117,11 +115,21 @@ fn run_open<R: Threads + Wait + Sync, K: Sink, G: Gate + Sync>(
         (rest_place text.now rest) (K.held sink.old) (K.held sink.new))) }
     ensures faults { CountsFaults (K.faults sink.old) (K.faults sink.new) result }
 {
-    let read = match read_open(alloc, text, rest, accepted.spec()) {
-        Ok(read) => read,
-        Err(refusal) => return refuse_run(alloc, sink, refusal),
-    };
-    with_run(perform_open(rt, alloc, hash_seed, sink, accepted, read, gate))
+    match read_open(alloc, text, rest, accepted.spec()) {
+        Ok(read) => {
+            let shapes = read.shapes;
+            let ran = perform_open(
+                rt, alloc, hash_seed, sink, accepted, shapes, &read.work, gate,
+            );
+            // Dropped by its type's own `drop`, which is proved, and not field by field.
+            drop(read.work);
+            with_run(ran)
+        }
+        Err(refusal) => {
+            drop(accepted);
+            refuse_run(alloc, sink, refusal)
+        }
+    }
 }
 
 /// Answers a specification, and a workload behind it whose calls may bring their own operation: makes its calls where all rules

@@ -58,7 +58,11 @@ pub(crate) fn make_run<R: Threads + Wait + Sync, G: Gate + Sync>(
     let _ = compiled.accepted();
     let closed = run_work(rt, alloc, hash_seed, compiled, work, gate)?;
     closed.has_one_history();
-    let last = closed.rows(alloc, hash_seed)?;
+    let Ok(last) = closed.rows(alloc, hash_seed) else {
+        // Dropped by its type's own `drop`, which is proved, and not field by field.
+        drop(closed);
+        return Err(Memory);
+    };
     Ok(Ran { closed, last })
 }
 
@@ -113,8 +117,7 @@ pub(crate) fn perform<R: Threads + Wait + Sync, K: Sink, G: Gate + Sync>(
     ensures faults { CountsFaults (K.faults sink.old) (K.faults sink.new) result }
 {
     let ran = make_run(rt, alloc, hash_seed, compiled, work, gate)?;
-    write_run(alloc, sink, &ran, work)?;
-    Ok(ran)
+    write_run(alloc, sink, &ran, work).and(Ok(ran))
 }
 
 /// Plans the operations of an accepted specification, makes the turns of a workload, and writes the plans and the report.
@@ -225,11 +228,17 @@ fn run<R: Threads + Wait + Sync, K: Sink, G: Gate + Sync>(
         Ok(accepted) => accepted,
         Err(fault) => return refuse_run_of(alloc, sink, fault),
     };
-    let work = match read_work(alloc, text, rest, accepted.spec(), also) {
-        Ok(work) => work,
-        Err(refusal) => return refuse_run(alloc, sink, refusal),
-    };
-    with_run(perform_planned(rt, alloc, hash_seed, sink, accepted, &work, gate))
+    match read_work(alloc, text, rest, accepted.spec(), also) {
+        Ok(work) => {
+            let ran = perform_planned(rt, alloc, hash_seed, sink, accepted, &work, gate);
+            drop(work);
+            with_run(ran)
+        }
+        Err(refusal) => {
+            drop(accepted);
+            refuse_run(alloc, sink, refusal)
+        }
+    }
 }
 
 /// Answers a text of at most 2^24 bytes as the command asks, and writes the answer line by line: what the command asks of

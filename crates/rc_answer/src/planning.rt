@@ -42,7 +42,11 @@ pub(crate) fn write_planned<K: Sink>(
     ensures faults { CountsFaults (K.faults sink.old) (K.faults sink.new) result }
 {
     let compiled = compile(alloc, accepted)?;
-    write_plans(alloc, sink, &compiled)?;
+    let _ = compiled.accepted();
+    let written = write_plans(alloc, sink, &compiled);
+    // Dropped by its type's own `drop`, which is proved, and not field by field.
+    drop(compiled);
+    written?;
     write_all(sink, b"end\n")?;
     Ok(Status::Done)
 }

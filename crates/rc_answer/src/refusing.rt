@@ -62,8 +62,10 @@ pub(crate) fn refuse_spec<K: Sink>(
     match fault {
         AcceptFault::Memory => Err(Stop::Memory),
         AcceptFault::Refused(spec, refusal) => {
-            let line = print_refusal(alloc, &spec, &refusal)?;
-            write_line(sink, line)?;
+            let line = print_refusal(alloc, &spec, &refusal);
+            // Dropped by its type's own `drop`, which is proved, and not field by field.
+            drop(spec);
+            write_line(sink, line?)?;
             Ok(Status::Refused)
         }
     }
@@ -148,8 +150,9 @@ pub(crate) fn refuse_plan<K: Sink>(
             op,
             refusal,
         } => {
-            let line = print_plan_refusal(alloc, accepted.spec(), op, &refusal)?;
-            write_line(sink, line)?;
+            let line = print_plan_refusal(alloc, accepted.spec(), op, &refusal);
+            drop(accepted);
+            write_line(sink, line?)?;
             Ok(Outcome::without_run(Status::Refused))
         }
     }

@@ -11,26 +11,26 @@ pub read_work-requires-clause-well_named : goal.read_work-requires-clause-well_n
 read_work-requires-clause-well_named g c =
     subst IsWellNamed (sym (c.spec-spec.ensures.value ∙ c.accepted.ensures.value ∙ c.in-Ok.ensures.same)) c.requires.well_named
 
-pub returns-clause-written : goal.returns-clause-written
-returns-clause-written g c =
+pub returns-in-Ok-read_work-clause-written : goal.returns-in-Ok-read_work-clause-written
+returns-in-Ok-read_work-clause-written g c =
     let lines = content_from (rest_place c.args.text.now c.args.behind) in
     let old = g.K.Sink.held c.args.sink.now in
-    let new = g.K.Sink.held c.perform.new.sink in
+    let new = g.K.Sink.held c.perform-ran.new.sink in
     subst (Writes (AnswersChosen (past_end_of c.args.text.now) c.args.accepted c.args.hands.items lines) old new)
-    (done_status c.perform.result c.with_run.result c.with_run.ensures)
+    (done_status c.perform-ran.result c.with_run.result c.with_run.ensures)
     (chosen_answers c.args.accepted c.spec-spec.result.now c.args.hands.items c.in-Ok.compiled c.in-Ok-read_work.work c.args.text.now c.args.behind
     c.in-Ok.ensures.same c.in-Ok.ensures.chosen (c.in-Ok.ensures.kept refl)
     (c.spec-spec.ensures.value ∙ c.accepted.ensures.value ∙ c.in-Ok.ensures.same) c.in-Ok-read_work.ensures.exact
-    old new (done_in c.perform.result) c.perform.ensures.written)
+    old new (done_in c.perform-ran.result) c.perform-ran.ensures.written)
 
-pub returns-clause-ran : goal.returns-clause-ran
-returns-clause-ran g c =
+pub returns-in-Ok-read_work-clause-ran : goal.returns-in-Ok-read_work-clause-ran
+returns-in-Ok-read_work-clause-ran g c =
     let lines = content_from (rest_place c.args.text.now c.args.behind) in
     let old = g.K.Sink.held c.args.sink.now in
-    let new = g.K.Sink.held c.perform.new.sink in
-    done_each (HasChosenText (past_end_of c.args.text.now) c.args.accepted c.args.hands.items lines old new) c.perform.result c.with_run.result
+    let new = g.K.Sink.held c.perform-ran.new.sink in
+    done_each (HasChosenText (past_end_of c.args.text.now) c.args.accepted c.args.hands.items lines old new) c.perform-ran.result c.with_run.result
     c.with_run.ensures
     (chosen_text c.args.accepted c.spec-spec.result.now c.args.hands.items c.in-Ok.compiled c.in-Ok-read_work.work c.args.text.now c.args.behind
     c.in-Ok.ensures.same c.in-Ok.ensures.chosen (c.in-Ok.ensures.kept refl)
     (c.spec-spec.ensures.value ∙ c.accepted.ensures.value ∙ c.in-Ok.ensures.same) c.in-Ok-read_work.ensures.exact
-    old new c.perform.result c.perform.ensures.run c.perform.ensures.store c.perform.ensures.text)
+    old new c.perform-ran.result c.perform-ran.ensures.run c.perform-ran.ensures.store c.perform-ran.ensures.text)

@@ -10,7 +10,7 @@ returns-in_err-write_text-clause-written g c =
     text_begun (IsPlanDrawing c.args.accepted c.args.op) (plan_drawing_text c.args.accepted c.args.op plan) c.deref.result.now
     (g.K.Sink.held c.args.sink.now) (g.K.Sink.held c.write_text.new.sink) c.from_residual-in_err-write_text.result c.from_residual-in_err-write_text.ensures.0
     (plan, c.in_ok-compiled.ensures.planned c.args.op c.requires, refl, refl)
-    (drawing_printed c.args.accepted c.accepted.result.now c.args.op plan c.plan.result.now c.in_ok-text.text.items c.deref.result.now
+    (drawing_printed c.args.accepted c.accepted.result.now c.args.op plan c.plan.result.now c.in_ok-text.field-0.items c.deref.result.now
     (c.accepted.ensures.value ∙ c.in_ok-compiled.ensures.same) c.plan.ensures.value c.in_ok-text.ensures c.deref.ensures.value)
     c.in_err-write_text.ensures.prefix
 
@@ -21,6 +21,6 @@ returns-clause-written g c =
     text_written (IsPlanDrawing c.args.accepted c.args.op) (plan_drawing_text c.args.accepted c.args.op plan) c.deref.result.now
     (g.K.Sink.held c.args.sink.now) (g.K.Sink.held c.write_text.new.sink)
     (plan, c.in_ok-compiled.ensures.planned c.args.op c.requires, refl, refl)
-    (drawing_printed c.args.accepted c.accepted.result.now c.args.op plan c.plan.result.now c.in_ok-text.text.items c.deref.result.now
+    (drawing_printed c.args.accepted c.accepted.result.now c.args.op plan c.plan.result.now c.in_ok-text.field-0.items c.deref.result.now
     (c.accepted.ensures.value ∙ c.in_ok-compiled.ensures.same) c.plan.ensures.value c.in_ok-text.ensures c.deref.ensures.value)
     c.in_ok-write_text.ensures.ok

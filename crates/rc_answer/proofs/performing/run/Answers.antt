@@ -4,8 +4,8 @@ use Rattle.rc_answer.proofs.AnswerLemmas.{refusal_answers, report_answers, spec_
 use Rattle.rc_answer.proofs.RanLemmas.{done_has_ran, done_ran, done_status, read_as}
 use Rattle.rc_answer.proofs.performing.run.Goals as goal
 
-pub returns-clause-written : goal.returns-clause-written
-returns-clause-written g c =
+pub returns-in-Ok-read_work-clause-written : goal.returns-in-Ok-read_work-clause-written
+returns-in-Ok-read_work-clause-written g c =
     let text = c.args.text.now in
     let spec : Spec = c.in-Ok-accept.accepted in
     let same : spec ≡ c.in-Ok.read.0 = c.in-Ok-accept.ensures.value in
@@ -14,15 +14,15 @@ returns-clause-written g c =
     let accepted : IsAccepted spec = subst (λ (s : Spec). IsAccepted s) (sym same) (c.in-Ok-accept.ensures.accepted refl) in
     let read : work_reading c.args.also spec (rest_place text c.in-Ok.read.1) ≡ Ok c.in-Ok-read_work.work =
     subst (λ (s : Spec). work_reading c.args.also s (rest_place text c.in-Ok.read.1) ≡ Ok c.in-Ok-read_work.work) c.spec.ensures.value c.in-Ok-read_work.ensures.exact in
-    subst (Writes (AnswersRun c.args.also text (spec_reading text)) (g.K.Sink.held c.args.sink.now) (g.K.Sink.held c.perform_planned.new.sink)) (done_status c.perform_planned.result c.with_run.result c.with_run.ensures)
-    (writes_wider (IsReport spec c.in-Ok-read_work.work) (AnswersRun c.args.also text (spec_reading text)) (g.K.Sink.held c.args.sink.now) (g.K.Sink.held c.perform_planned.new.sink) (done_in c.perform_planned.result)
-    (report_answers c.args.also text found.0 spec c.in-Ok.read.1 found.1 is accepted c.in-Ok-read_work.work read) c.perform_planned.ensures.written)
+    subst (Writes (AnswersRun c.args.also text (spec_reading text)) (g.K.Sink.held c.args.sink.now) (g.K.Sink.held c.perform_planned-ran.new.sink)) (done_status c.perform_planned-ran.result c.with_run.result c.with_run.ensures)
+    (writes_wider (IsReport spec c.in-Ok-read_work.work) (AnswersRun c.args.also text (spec_reading text)) (g.K.Sink.held c.args.sink.now) (g.K.Sink.held c.perform_planned-ran.new.sink) (done_in c.perform_planned-ran.result)
+    (report_answers c.args.also text found.0 spec c.in-Ok.read.1 found.1 is accepted c.in-Ok-read_work.work read) c.perform_planned-ran.ensures.written)
 
-pub returns-clause-has_ran : goal.returns-clause-has_ran
-returns-clause-has_ran g c = done_has_ran c.perform_planned.result c.with_run.result c.with_run.ensures
+pub returns-in-Ok-read_work-clause-has_ran : goal.returns-in-Ok-read_work-clause-has_ran
+returns-in-Ok-read_work-clause-has_ran g c = done_has_ran c.perform_planned-ran.result c.with_run.result c.with_run.ensures
 
-pub returns-clause-ran : goal.returns-clause-ran
-returns-clause-ran g c =
+pub returns-in-Ok-read_work-clause-ran : goal.returns-in-Ok-read_work-clause-ran
+returns-in-Ok-read_work-clause-ran g c =
     let text = c.args.text.now in
     let spec : Spec = c.in-Ok-accept.accepted in
     let same : spec ≡ c.in-Ok.read.0 = c.in-Ok-accept.ensures.value in
@@ -31,9 +31,9 @@ returns-clause-ran g c =
     let accepted : IsAccepted spec = subst (λ (s : Spec). IsAccepted s) (sym same) (c.in-Ok-accept.ensures.accepted refl) in
     let read : work_reading c.args.also spec (rest_place text c.in-Ok.read.1) ≡ Ok c.in-Ok-read_work.work =
     subst (λ (s : Spec). work_reading c.args.also s (rest_place text c.in-Ok.read.1) ≡ Ok c.in-Ok-read_work.work) c.spec.ensures.value c.in-Ok-read_work.ensures.exact in
-    done_ran c.args.also text spec c.in-Ok-read_work.work (g.K.Sink.held c.args.sink.now) (g.K.Sink.held c.perform_planned.new.sink)
+    done_ran c.args.also text spec c.in-Ok-read_work.work (g.K.Sink.held c.args.sink.now) (g.K.Sink.held c.perform_planned-ran.new.sink)
     (read_as c.args.also text found.0 spec c.in-Ok.read.1 c.in-Ok-read_work.work found.1 is accepted read)
-    c.perform_planned.result c.with_run.result c.with_run.ensures c.perform_planned.ensures.run c.perform_planned.ensures.store c.perform_planned.ensures.text
+    c.perform_planned-ran.result c.with_run.result c.with_run.ensures c.perform_planned-ran.ensures.run c.perform_planned-ran.ensures.store c.perform_planned-ran.ensures.text
 
 pub returns-in-Err-read_work-clause-written : goal.returns-in-Err-read_work-clause-written
 returns-in-Err-read_work-clause-written g c =
