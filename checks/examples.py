@@ -1,8 +1,8 @@
 #!/usr/bin/env python3
 """checks/examples.py PROGRAM: whether the program prints of each text in examples/ what stands beside it, by `run`, of a text with
-groups by `group`, of one with plans by `hand`, of one whose calls bring operations by `open`, and of one with a journal by `audit bare`; whether `audit` finds what `run` printed legal behind its text, and `audit
-bare` the journal in it, of these and of 20,000 calls that eight threads make beside each other; and whether it accepts the specification
-at the top of README.md."""
+groups by `group`, of one with plans by `hand`, of one whose calls bring operations by `open`, and of one with a journal by `audit bare`; whether
+`audit` finds what `run` printed legal behind its text, `audit group` what `group` printed, and `audit bare` the journal of a run, of these
+and of 20,000 calls that eight threads make beside each other; and whether it accepts the specification at the top of README.md."""
 import pathlib
 import re
 import subprocess
@@ -59,6 +59,8 @@ def main():
         command = command_of(lines)
         if printed(program, command, lines) != text.with_suffix(".out").read_bytes():
             wrong.append(str(text.relative_to(TOP)))
+        if command == "group" and not printed(program, "audit group", lines + printed(program, command, lines)).startswith(b"legal "):
+            wrong.append(f"{text.relative_to(TOP)}, judged by audit group")
         if command == "run" and not is_legal(program, lines):
             wrong.append(f"{text.relative_to(TOP)}, judged by audit")
     if not is_legal(program, many_calls()):
